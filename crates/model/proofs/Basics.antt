@@ -1,0 +1,174 @@
+-- Tests, byte strings, selections, and lists of checks.
+-- Assumes nothing.
+use mathlib.Core.Path.{_≡_, refl, sym, _∙_}
+use mathlib.Core.Bool.{Bool, true, false, not, _&&_, _||_}
+use mathlib.Core.List.{List, [], _∷_, _++_, map}
+use mathlib.Core.Option.{some}
+use Prim.Native.Nat.{ℕ, _≤_}
+use native.Mathlib.Omega.{arith}
+use lib.ListN.{length}
+use lib.Dec.{eqb}
+use borrow.Author.Tests.{eqb-true, eq-eqb}
+use Rattle.model.specs.Lists.{all, select, first, eqBytes}
+use Rattle.model.specs.Commands.{Check, judge}
+
+-- ---- tests
+
+pub split {ℓ} : {G : Type ℓ} (b : Bool) → (b ≡ true → G) → (b ≡ false → G) → G
+split true f g = f refl
+split false f g = g refl
+
+pub clash {ℓ} : {G : Type ℓ} {b : Bool} → b ≡ true → b ≡ false → G
+clash {b = b} p q = let z : _≡_ {A = ℕ} 0 1 = cc in absurd (omega arith)
+
+pub and-left : (a b : Bool) → (a && b) ≡ true → a ≡ true
+and-left true b e = refl
+and-left false b e = e
+
+pub and-right : (a b : Bool) → (a && b) ≡ true → b ≡ true
+and-right true b e = e
+and-right false b e = clash e refl
+
+pub both : {a b : Bool} → a ≡ true → b ≡ true → (a && b) ≡ true
+both {a} {b} p q = cc
+
+pub or-left : (a b : Bool) → (a || b) ≡ false → a ≡ false
+or-left true b e = e
+or-left false b e = refl
+
+pub or-right : (a b : Bool) → (a || b) ≡ false → b ≡ false
+or-right true b e = clash refl e
+or-right false b e = e
+
+pub either : {G : Type 0} (a b : Bool) → (a || b) ≡ true → (a ≡ true → G) → (b ≡ true → G) → G
+either true b e f g = f refl
+either false b e f g = g e
+
+pub not-not : (b : Bool) → not b ≡ false → b ≡ true
+not-not true e = refl
+not-not false e = sym e
+
+-- ---- byte strings
+
+pub eqBytes-refl : (s : List ℕ) → eqBytes s s ≡ true
+unfolding eqBytes
+eqBytes-refl [] = refl
+eqBytes-refl (x ∷ s) = both (eq-eqb x x refl) (eqBytes-refl s)
+
+pub eqBytes-eq : (s t : List ℕ) → eqBytes s t ≡ true → s ≡ t
+unfolding eqBytes
+eqBytes-eq [] [] e = refl
+eqBytes-eq [] (y ∷ t) e = clash e refl
+eqBytes-eq (x ∷ s) [] e = clash e refl
+eqBytes-eq (x ∷ s) (y ∷ t) e =
+    let p : x ≡ y = eqb-true x y (and-left (eqb x y) (eqBytes s t) e) in
+    let q : s ≡ t = eqBytes-eq s t (and-right (eqb x y) (eqBytes s t) e) in
+    cc
+
+pub eqBytes-same : {s t : List ℕ} → s ≡ t → eqBytes s t ≡ true
+eqBytes-same {s} {t} e = rw e (eqBytes-refl t)
+
+pub eqBytes-sym : (s t : List ℕ) → eqBytes s t ≡ eqBytes t s
+eqBytes-sym s t =
+    split (eqBytes s t)
+    (λ p. p ∙ sym (eqBytes-same (sym (eqBytes-eq s t p))))
+    (λ p. split (eqBytes t s) (λ q. clash (eqBytes-same (sym (eqBytes-eq t s q))) p) (λ q. p ∙ sym q))
+
+pub eqBytes-not : (s t : List ℕ) → (s ≡ t → ⊥) → eqBytes s t ≡ false
+eqBytes-not s t h = split (eqBytes s t) (λ e. absurd (h (eqBytes-eq s t e))) (λ e. e)
+
+-- ---- selections
+
+module _ {A : Type 0} where
+  pub all-same : {p q : A → Bool} → ((x : A) → p x ≡ true → q x ≡ true) → (xs : List A) → all p xs ≡ true → all q xs ≡ true
+  all-same f [] e = refl
+  all-same {p} {q} f (x ∷ xs) e = both (f x (and-left (p x) _ e)) (all-same f xs (and-right (p x) _ e))
+
+  pub all-append : (p : A → Bool) (xs ys : List A) → all p xs ≡ true → all p ys ≡ true → all p (xs ++ ys) ≡ true
+  all-append p [] ys e f = f
+  all-append p (x ∷ xs) ys e f = both (and-left (p x) _ e) (all-append p xs ys (and-right (p x) _ e) f)
+
+  pub select-append : (p : A → Bool) (xs ys : List A) → select p (xs ++ ys) ≡ select p xs ++ select p ys
+  select-append p [] ys = refl
+  select-append p (x ∷ xs) ys = split (p x) (λ e. cc (select-append p xs ys)) (λ e. cc (select-append p xs ys))
+
+  -- two tests in either order
+  pub select-comm : (p q : A → Bool) (xs : List A) → select p (select q xs) ≡ select q (select p xs)
+  select-comm p q [] = refl
+  select-comm p q (x ∷ xs) =
+      split (p x) (λ e. split (q x) (λ f. cc (select-comm p q xs)) (λ f. cc (select-comm p q xs)))
+      (λ e. split (q x) (λ f. cc (select-comm p q xs)) (λ f. cc (select-comm p q xs)))
+
+  pub select-all : (p : A → Bool) (xs : List A) → all p xs ≡ true → select p xs ≡ xs
+  select-all p [] e = refl
+  select-all p (x ∷ xs) e =
+      let h : p x ≡ true = and-left (p x) _ e in
+      cc (select-all p xs (and-right (p x) _ e))
+
+  pub all-select : (p q : A → Bool) (xs : List A) → all p xs ≡ true → all p (select q xs) ≡ true
+  all-select p q [] e = refl
+  all-select p q (x ∷ xs) e =
+      let ih : all p (select q xs) ≡ true = all-select p q xs (and-right (p x) _ e) in
+      split (q x) (λ f. rw f (both (and-left (p x) _ e) ih)) (λ f. rw f ih)
+
+  pub length-select : (p : A → Bool) (xs : List A) → length (select p xs) ≤ length xs
+  length-select p [] = omega arith
+  length-select p (x ∷ xs) =
+      split (p x) (λ e. rw e (omega (arith, length-select p xs))) (λ e. rw e (omega (arith, length-select p xs)))
+
+module _ {A : Type 0} (p : A → Bool) where
+  pub select-narrow : (q : A → Bool) → ((x : A) → p x ≡ true → q x ≡ true) → (xs : List A) → select p (select q xs) ≡ select p xs
+  select-narrow q f [] = refl
+  select-narrow q f (x ∷ xs) =
+      let ih = select-narrow q f xs in
+      split (p x) (λ e. let k = f x e in cc) (λ e. split (q x) (λ k. cc) (λ k. cc))
+
+  pub select-map : (f : A → A) → ((x : A) → p (f x) ≡ p x) → (xs : List A) → select p (map f xs) ≡ map f (select p xs)
+  select-map f h [] = refl
+  select-map f h (x ∷ xs) =
+      let ih = select-map f h xs in
+      let k = h x in
+      split (p x) (λ e. cc) (λ e. cc)
+
+  pub map-select : (f : A → A) → ((x : A) → p x ≡ true → f x ≡ x) → (xs : List A) → map f (select p xs) ≡ select p xs
+  map-select f h [] = refl
+  map-select f h (x ∷ xs) =
+      let ih = map-select f h xs in
+      split (p x) (λ e. let k = h x e in cc) (λ e. cc)
+
+  pub all-map : (f : A → A) → ((x : A) → p x ≡ true → p (f x) ≡ true) → (xs : List A) → all p xs ≡ true → all p (map f xs) ≡ true
+  all-map f h [] e = refl
+  all-map f h (x ∷ xs) e = both (h x (and-left (p x) _ e)) (all-map f h xs (and-right (p x) _ e))
+
+  pub first-passes : (xs : List A) (x : A) → first (select p xs) ≡ some x → p x ≡ true
+  first-passes [] x e = cc
+  first-passes (y ∷ xs) x e = split (p y) (λ k. cc) (λ k. first-passes xs x (cc))
+
+-- ---- lists of checks
+
+-- every check passes
+abbrev pub Passed : List Check → Type 0
+Passed [] = Unit {0}
+Passed (c ∷ cs) = (c .fails ≡ false) × Passed cs
+
+module _ {A : Type 0} where
+  -- what holds of each check that fails, and of the result where all pass, holds of the judgment
+  pub judged : (P : A → Type 0) (cs : List Check) (says : ℕ → A) (passed : A) → ((n : ℕ) → P (says n)) → (Passed cs → P passed)
+      → P (judge cs says passed)
+  unfolding judge
+  judged P [] says passed f g = g tt
+  judged P (c ∷ cs) says passed f g =
+      split (c .fails) (λ e. rw e (f (c .says))) (λ e. rw e (judged P cs says passed f (λ k. g (e, k))))
+
+  pub passes : (cs : List Check) (says : ℕ → A) (passed : A) → Passed cs → judge cs says passed ≡ passed
+  unfolding judge
+  passes [] says passed k = refl
+  passes (c ∷ cs) says passed k = rw (k .0) (passes cs says passed (k .1))
+
+pub judge-map : {A B : Type 0} (f : A → B) (cs : List Check) (says : ℕ → A) (passed : A)
+    → f (judge cs says passed) ≡ judge cs (λ n. f (says n)) (f passed)
+unfolding judge
+judge-map f [] says passed = refl
+judge-map f (c ∷ cs) says passed =
+    let ih = judge-map f cs says passed in
+    split (c .fails) (λ e. rw e) (λ e. rw e ih)

@@ -1,0 +1,12 @@
+-- For examples that are computed: to unfold `computing` is to unfold all that a call and a trace compute with.
+-- Assumes nothing.
+use Rattle.model.specs.Lists.{eqBytes}
+use Rattle.model.specs.Tlv.{num, le, bytes, tlvsPast, wellFormed, fits, kindOf, childrenOk, children, broken, fieldsIn, fieldIn}
+use Rattle.model.specs.Layouts.{fill, write, matches}
+use Rattle.model.specs.Records.{recordOk, own, tableOk, encode, storedAs, decode}
+use Rattle.model.specs.Commands.{profileOk, lentOk, judge, apply, only, infoResponse, decideGetInfo, registerDraft, registerChecks, decideRegister, chosen, nameResponse, hasContent, signDraft, signOne, signChosen, decideSign, decideDeregister, decideOpenSettings, decide, perform, tableOf, refusals, outcome}
+use Rattle.model.specs.Traces.{result, next, final, callsOf, observe, fresh, roomy}
+
+unfoldable pub computing : Unit {0}
+unfolding eqBytes num le bytes tlvsPast wellFormed fits kindOf childrenOk children broken fieldsIn fieldIn fill write matches recordOk own tableOk encode storedAs decode profileOk lentOk judge apply only infoResponse decideGetInfo registerDraft registerChecks decideRegister chosen nameResponse hasContent signDraft signOne signChosen decideSign decideDeregister decideOpenSettings decide perform tableOf refusals outcome result next final callsOf observe fresh roomy
+computing = tt

@@ -1,0 +1,251 @@
+-- Law i, its second direction: each draft that completion takes is one that a command writes.
+-- Assumes nothing.
+use mathlib.Core.Path.{_≡_, refl, ap, _∙_}
+use mathlib.Core.Bool.{Bool, true, false, not, cond, and-false}
+use mathlib.Core.List.{List, [], _∷_, _++_}
+use Prim.Native.Nat.{ℕ, suc, _+_, _-_, _^_, _≤_, _<_}
+use native.Mathlib.Omega.{arith}
+use lib.ListN.{length, getD}
+use lib.Dec.{lit<}
+use borrow.Author.Tests.{le-leb, ltb-true, eqb-true, ne-eqb}
+use Rattle.model.specs.Lists.{empty, eqBytes}
+use Rattle.model.specs.Tlv.{Bytes, num, le, Kind, register, sign, Field, challengeHash, attestationType, transactionContent, keyHandle, aaid, assertionInfo, keyId, noCounts, publicKey, nonce, contentHash, newCount, full, fits, fieldsOf, valuesOf, childrenOk, fieldsIn, fieldIn, maxCommand}
+use Rattle.model.specs.Layouts.{end, fill, write, reads}
+use Rattle.model.specs.Records.{Record, Table, recordOk, own, tableOk, maxCount}
+use Rattle.model.specs.Commands.{Lent, value, draft, keyRegistrationData, signedData, lentOk, judge, registerDraft, registerChecks, decideRegister, chosen, hasContent, signDraft, signOne, signChosen, decideSign, decide, perform}
+use Rattle.model.specs.Complete.{draftsOf, isDraft}
+use Rattle.model.proofs.Basics.{both, eqBytes-eq}
+use Rattle.model.proofs.Numbers.{length-le, bytes-le, num-le, le-num, num-bound}
+use Rattle.model.proofs.Tlvs.{Sized}
+use Rattle.model.proofs.LayoutLaws.{AllBytes, fits-most, fits-least, reads-written, fits-allowed}
+use Rattle.model.proofs.CommandWrites.{completionKind, drafts-each, draft-taken}
+use Rattle.model.proofs.LayoutWritten.{any-found, each-member}
+use Rattle.model.proofs.Witness.{Answered, zeros, byte, zero-bytes, command, calling, lending, registering, signing, profile-ok, calling-gives, total, not-broken, fields-command, taken, Fit, fit-each}
+
+-- some allowed inputs make the command of this kind write this draft
+pub record Drafted (kind : ℕ) (d : List ℕ) : Type 0 where
+  pub command : Kind
+  pub of-kind : completionKind command ≡ kind
+  pub made : Answered command (draft d)
+
+-- ---- the numbers in ASSERTION_INFO
+
+-- the numbers of which these bytes are written: a version, a mode, one algorithm, and for w = 2 another
+record Info (mode w : ℕ) (i : List ℕ) : Type 0 where
+  version : ℕ
+  algorithm : ℕ
+  other : ℕ
+  small-version : version < 65536
+  small-algorithm : algorithm < 65536
+  small-other : other < 256 ^ w
+  written : le 2 version ++ (mode ∷ le 2 algorithm ++ le w other) ≡ i
+
+info-of : (mode w : ℕ) (i : List ℕ) → fits (assertionInfo (5 + w) mode) i ≡ true → Bytes i → Info mode w i
+info-of mode w i f b =
+    let g : Field = assertionInfo (5 + w) mode in
+    let m : getD i 2 0 ≡ mode = eqb-true _ _ (fits-allowed g i f) in
+    let n : length i ≡ 5 + w = omega (arith, fits-least g i f, fits-most g i f) in
+    taken 5 (λ i. length i ≡ 5 + w → getD i 2 0 ≡ mode → Bytes i → Info mode w i)
+    (λ x0 x1 x2 x3 x4 rest n e b.
+    let v : Bytes (x0 ∷ x1 ∷ []) = (b .0, (b .1 .0, tt)) in
+    let a : Bytes (x3 ∷ x4 ∷ []) = (b .1 .1 .1 .0, (b .1 .1 .1 .1 .0, tt)) in
+    let o : Bytes rest = b .1 .1 .1 .1 .1 in
+    let m : length rest ≡ w = omega arith in
+    record {
+      version = num (x0 ∷ x1 ∷ []);
+      algorithm = num (x3 ∷ x4 ∷ []);
+      other = num rest;
+      small-version = num-bound (x0 ∷ x1 ∷ []) v;
+      small-algorithm = num-bound (x3 ∷ x4 ∷ []) a;
+      small-other = rw m at (num-bound rest o);
+      written = rw (le-num (x0 ∷ x1 ∷ []) v, le-num (x3 ∷ x4 ∷ []) a, ← m, le-num rest o, ← e);
+    })
+    i (omega arith) n m b
+
+-- ---- Register
+
+registering-ok : (h : List ℕ) → fits challengeHash h ≡ true → childrenOk (fieldsOf register) (registering h full) ≡ true
+unfolding childrenOk fits eqBytes le
+registering-ok h f = rw f
+
+register-answers : (h : List ℕ) (l : Lent) → fits challengeHash h ≡ true → l .verdict ≡ 0
+    → perform register (calling register (registering h full) l) [] .answer
+    ≡ draft (write (keyRegistrationData end)
+    (l .aaid ∷ (le 2 (l .version) ++ (0x01 ∷ le 2 (l .signatureAlgorithm) ++ le 2 (l .keyAlgorithm))) ∷ h ∷ l .keyId
+    ∷ (le 4 0 ++ le 4 0) ∷ l .publicKey ∷ []))
+unfolding perform decide decideRegister registerChecks registerDraft judge fieldIn own
+register-answers h l f v =
+    let n : length h ≤ 32 = fits-most challengeHash h f in
+    let z : Sized (registering h full) = omega (arith, length-le 2 full) in
+    let m : 4 + total (registering h full) ≤ maxCommand = omega (arith, length-le 2 full) in
+    let read = fields-command register (registering h full) z m in
+    let sound = not-broken register (registering h full) z m (registering-ok h f) in
+    rw (sound, v, read attestationType, read challengeHash, num-le 2 full (lit< tt))
+
+register-lent : (a : List ℕ) (v s o : ℕ) (k p : List ℕ) → fits aaid a ≡ true → v < 65536 → s < 65536 → o < 65536 → fits keyId k ≡ true
+    → fits publicKey p ≡ true → lentOk register (lending a v s o (zeros 15) 0 0 (zeros 32) k p (zeros 8) (zeros 32)) ≡ true
+unfolding lentOk fits
+register-lent a v s o k p fa fv fs fo fk fp = both (both (both (both (profile-ok _ fa refl fv fs fo) refl) refl) fk) fp
+
+register-made : (a i h k c p : List ℕ) (rest : List (List ℕ)) → Fit (keyRegistrationData end) (a ∷ i ∷ h ∷ k ∷ c ∷ p ∷ rest)
+    → AllBytes (a ∷ i ∷ h ∷ k ∷ c ∷ p ∷ rest)
+    → Answered register (draft (write (keyRegistrationData end) (a ∷ i ∷ h ∷ k ∷ c ∷ p ∷ rest)))
+unfolding write fill tableOk
+register-made a i h k c p rest w b =
+    let (fa, (fi, (fh, (fk, (fc, (fp, u)))))) = w .0 in
+    let (ba, (bi, (bh, (bk, (bc, (bp, br)))))) = b in
+    let z = zero-bytes in
+    let j = info-of 0x01 2 i fi bi in
+    let e : le 4 0 ++ le 4 0 ≡ c = eqBytes-eq _ c (fits-allowed noCounts c fc) in
+    let l = lending a (j .version) (j .algorithm) (j .other) (zeros 15) 0 0 (zeros 32) k p (zeros 8) (zeros 32) in
+    calling-gives register (registering h full) l [] (draft (write (keyRegistrationData end) (a ∷ i ∷ h ∷ k ∷ c ∷ p ∷ rest)))
+    (z 1, (bh, (z 1, (bytes-le 2 full, (z 1, tt))))) (ba, (z 15, (z 32, (bk, (bp, (z 8, (z 32, tt)))))))
+    (register-lent a (j .version) (j .algorithm) (j .other) k p fa (j .small-version) (j .small-algorithm) (j .small-other) fk fp) refl
+    (register-answers h l fh refl ∙ rw (j .written, e))
+
+pub register-drafted : (vs : List (List ℕ)) → Fit (keyRegistrationData end) vs → AllBytes vs → 6 ≤ length vs
+    → Drafted 0 (write (keyRegistrationData end) vs)
+register-drafted vs f b n =
+    record {
+      command = register;
+      of-kind = refl;
+      made =
+          taken 6 (λ vs. Fit (keyRegistrationData end) vs → AllBytes vs → Answered register (draft (write (keyRegistrationData end) vs)))
+          register-made
+          vs n f b;
+    }
+
+-- ---- Sign
+
+signing-ok : (x h : List ℕ) → fits transactionContent x ≡ true → fits challengeHash h ≡ true
+    → childrenOk (fieldsOf sign) (signing x h) ≡ true
+unfolding childrenOk fits eqBytes
+signing-ok x h f g = rw (f, g)
+
+-- with no key handles all records are chosen
+chosen-all : (t : Table) → chosen [] t ≡ t
+unfolding chosen
+chosen-all [] = refl
+chosen-all (r ∷ t) = ap (λ (u : Table). r ∷ u) (chosen-all t)
+
+module _ (x h : List ℕ) (fx : fits transactionContent x ≡ true) (sx : length x ≤ 1) (fh : fits challengeHash h ≡ true) where
+  sign-fits : Sized (signing x h) × (4 + total (signing x h) ≤ maxCommand)
+  sign-fits = let n : length h ≤ 32 = fits-most challengeHash h fh in (omega arith, omega arith)
+
+  sign-reads : (f : Field) → fieldsIn f (command sign (signing x h)) ≡ valuesOf f (signing x h)
+  sign-reads = fields-command sign (signing x h) (sign-fits .0) (sign-fits .1)
+
+  -- the caller's own records decide
+  pub sign-chooses : (l : Lent) (t : Table) → l .verdict ≡ 0
+      → perform sign (calling sign (signing x h) l) t .answer ≡ signChosen (command sign (signing x h)) l (own (l .mixed) t) .answer
+  unfolding perform decide decideSign judge
+  sign-chooses l t v =
+      rw (not-broken sign (signing x h) (sign-fits .0) (sign-fits .1) (signing-ok x h fx fh), v, sign-reads keyHandle, chosen-all)
+
+  sign-answers : (l : Lent) (r : Record) (content : Bool) → not (empty x) ≡ content → l .verdict ≡ 0 → l .display ≡ 0
+      → eqBytes (r .mixed) (l .mixed) ≡ true → r .count < maxCount → perform sign (calling sign (signing x h) l) (r ∷ []) .answer
+      ≡ draft (write (signedData content end)
+      (l .aaid ∷ (le 2 (l .version) ++ (cond content 0x02 0x01 ∷ le 2 (l .signatureAlgorithm))) ∷ l .nonce ∷ h
+      ∷ cond content (l .contentHash) [] ∷ r .keyId ∷ le 4 (suc (r .count)) ∷ []))
+  unfolding own signChosen signOne signDraft hasContent fieldIn judge
+  sign-answers l r content e v d o m =
+      sign-chooses l (r ∷ []) v
+      ∙ (let below = ne-eqb (r .count) maxCount (omega arith) in
+      rw (o, sign-reads transactionContent, sign-reads challengeHash, e, d, and-false content, below))
+
+-- the content that a mode wants
+content-of : (content : Bool)
+    → (x : List ℕ) × (fits transactionContent x ≡ true) × (length x ≤ 1) × (not (empty x) ≡ content) × Bytes x
+unfolding fits
+content-of true = (byte, refl, omega arith, refl, zero-bytes 1)
+content-of false = ([], refl, omega arith, refl, tt)
+
+-- the lent hash of which this one is written
+hash-of : (content : Bool) (c : List ℕ) → fits (contentHash content) c ≡ true → Bytes c
+    → (x : List ℕ) × (fits (contentHash true) x ≡ true) × (cond content x [] ≡ c) × Bytes x
+unfolding fits
+hash-of true c f b = (c, f, refl, b)
+hash-of false [] f b = (zeros 32, refl, refl, zero-bytes 32)
+hash-of false (x ∷ c) f b = absurd (omega (arith, fits-most (contentHash false) (x ∷ c) f))
+
+-- the count before this one
+count-of : (v : List ℕ) → fits newCount v ≡ true → Bytes v → (n : ℕ) × (n < maxCount) × (le 4 (suc n) ≡ v)
+count-of v f b =
+    let p : 0 < num v = ltb-true _ _ (fits-allowed newCount v f) in
+    let l : length v ≡ 4 = omega (arith, fits-least newCount v f, fits-most newCount v f) in
+    let m : num v < 256 ^ 4 = rw l at (num-bound v b) in
+    let s : suc (num v - 1) ≡ num v = omega arith in
+    (num v - 1, omega arith, rw s (rw l at (le-num v b)))
+
+sign-lent : (a : List ℕ) (v s : ℕ) (n x : List ℕ) → fits aaid a ≡ true → v < 65536 → s < 65536 → fits nonce n ≡ true
+    → fits (contentHash true) x ≡ true → lentOk sign (lending a v s 0 (zeros 15) 0 0 (zeros 32) (zeros 32) byte n x) ≡ true
+unfolding lentOk fits
+sign-lent a v s n x fa fv fs fn fx = both (both (both (both (both (profile-ok _ fa refl fv fs (lit< tt)) refl) refl) refl) fn) fx
+
+one-ok : (k : List ℕ) (n : ℕ) → fits keyId k ≡ true → n < maxCount
+    → tableOk (record { keyId = k; mixed = zeros 32; name = byte; count = n } ∷ []) ≡ true
+unfolding tableOk recordOk own fits eqBytes
+one-ok k n f m = both (both (both refl (both (both (both (both f refl) refl) (le-leb n maxCount (omega arith))) refl)) refl) refl
+
+short-info : {mode : ℕ} {i : List ℕ} (j : Info mode 0 i) → le 2 (j .version) ++ (mode ∷ le 2 (j .algorithm)) ≡ i
+unfolding le
+short-info j = j .written
+
+sign-made : (content : Bool) (a i n h c k v : List ℕ) (rest : List (List ℕ))
+    → Fit (signedData content end) (a ∷ i ∷ n ∷ h ∷ c ∷ k ∷ v ∷ rest) → AllBytes (a ∷ i ∷ n ∷ h ∷ c ∷ k ∷ v ∷ rest)
+    → Answered sign (draft (write (signedData content end) (a ∷ i ∷ n ∷ h ∷ c ∷ k ∷ v ∷ rest)))
+unfolding write fill eqBytes
+sign-made content a i n h c k v rest w b =
+    let (fa, (fi, (fn, (fh, (fc, (fk, (fv, u))))))) = w .0 in
+    let (ba, (bi, (bn, (bh, (bc, (bk, (bv, br))))))) = b in
+    let o = zero-bytes in
+    let j = info-of (cond content 0x02 0x01) 0 i fi bi in
+    let (x, fx, sx, ex, bx) = content-of content in
+    let (y, fy, ey, by) = hash-of content c fc bc in
+    let (z, mz, ez) = count-of v fv bv in
+    let l = lending a (j .version) (j .algorithm) 0 (zeros 15) 0 0 (zeros 32) (zeros 32) byte n y in
+    let r : Record = record { keyId = k; mixed = zeros 32; name = byte; count = z } in
+    calling-gives sign (signing x h) l (r ∷ []) (draft (write (signedData content end) (a ∷ i ∷ n ∷ h ∷ c ∷ k ∷ v ∷ rest)))
+    (o 1, (bh, (bx, (o 1, tt)))) (ba, (o 15, (o 32, (o 32, (o 1, (bn, (by, (bk, (o 32, (o 1, tt))))))))))
+    (sign-lent a (j .version) (j .algorithm) n y fa (j .small-version) (j .small-algorithm) fn fy) (one-ok k z fk mz)
+    (sign-answers x h fx sx fh l r content ex refl refl refl mz ∙ rw (short-info j, ey, ez))
+
+pub sign-drafted : (content : Bool) (vs : List (List ℕ)) → Fit (signedData content end) vs → AllBytes vs → 7 ≤ length vs
+    → Drafted 1 (write (signedData content end) vs)
+sign-drafted content vs f b n =
+    record {
+      command = sign;
+      of-kind = refl;
+      made =
+          taken 7 (λ vs. Fit (signedData content end) vs → AllBytes vs → Answered sign (draft (write (signedData content end) vs)))
+          (sign-made content)
+          vs n f b;
+    }
+
+-- ---- both
+
+register-witness : (d : List ℕ) → Bytes d → reads (keyRegistrationData end) d ≡ true → Drafted 0 d
+register-witness d b e =
+    let w = reads-written (keyRegistrationData end) d b e in
+    let f = fit-each (keyRegistrationData end) (w .values) (w .fit) in
+    rw (w .written) at (register-drafted (w .values) f (w .held) (omega (arith, w .number)))
+
+sign-witness : (content : Bool) (d : List ℕ) → Bytes d → reads (signedData content end) d ≡ true → Drafted 1 d
+sign-witness content d b e =
+    let w = reads-written (signedData content end) d b e in
+    let f = fit-each (signedData content end) (w .values) (w .fit) in
+    rw (w .written) at (sign-drafted content (w .values) f (w .held) (omega (arith, w .number)))
+
+pub draft-witness : (kind : ℕ) (d : List ℕ) → Bytes d → isDraft kind d ≡ true → Drafted kind d
+unfolding isDraft
+draft-witness kind d b e =
+    let (l, m, r) = any-found (λ l. reads l d) (draftsOf kind) e in
+    each-member (λ l. reads l d ≡ true → Drafted kind d) m
+    (drafts-each _ kind (λ k p. rw k (register-witness d b p)) (λ content k p. rw k (sign-witness content d b p)))
+    r
+
+-- and the first direction again: completion takes it
+pub drafted-taken : (kind : ℕ) (d : List ℕ) → Drafted kind d → isDraft kind d ≡ true
+drafted-taken kind d w =
+    let m = w .made in
+    rw (← w .of-kind) (rw (m .kind) at (draft-taken (m .call) (value (m .table)) (m .effect) d (m .gives) (m .answers)))

@@ -1,0 +1,340 @@
+-- Document 01, "Commands": what is lent, the five commands, and last the refusals, which every call checks first.
+use Prim.Native.Nat.{ℕ, zero, suc}
+use mathlib.Core.Bool.{Bool, true, not, cond, _&&_, _||_}
+use mathlib.Core.List.{List, [], _∷_, _++_, map}
+use mathlib.Core.Option.{Option, none, some, Option·getD, Option·map}
+use lib.ListN.{length, drop, getD}
+use lib.Dec.{leb, ltb, eqb}
+use Rattle.model.specs.Lists.{select, empty, given, eqBytes, among}
+use Rattle.model.specs.Tlv.{num, le, fits, index, challengeHash, username, attestationType, keyHandle, keyId, keyIdOrNone, transactionContent, mixedToken, aaid, metadata, publicKey, nonce, statusAmong, ok, apiVersion, contentType, assertionScheme, fullType, surrogateType, noCounts, newCount, assertionInfo, contentHash, full, surrogate, textPlain, uafV1Tlv, Kind, getInfo, register, sign, deregister, openSettings, kindOf, broken, fieldsIn, fieldIn}
+use Rattle.model.specs.Layouts.{Layout, end, field, group, fields, write}
+use Rattle.model.specs.Records.{Record, Table, maxCount, maxRecords, maxOwn, maxStored, pairTag, own, keyIds, hasMixed, tableOk, encode, decode}
+
+-- "The profile is lent": aaid to metadata; hashing, keys, fingerprint and display "lend their results": the rest
+pub record Lent : Type 0 where
+  pub aaid : List ℕ
+  pub version : ℕ
+  pub signatureAlgorithm : ℕ
+  pub keyAlgorithm : ℕ
+  pub metadata : List ℕ
+  pub verdict : ℕ
+  pub display : ℕ
+  pub mixed : List ℕ
+  pub keyId : List ℕ
+  pub publicKey : List ℕ
+  pub nonce : List ℕ
+  pub contentHash : List ℕ
+
+-- a call: the command, what is lent, the response output's length and, "where a stored table is written", the length of its own output
+pub record Call : Type 0 where
+  pub command : List ℕ
+  pub lent : Lent
+  pub output : ℕ
+  pub tableOutput : Option ℕ
+
+-- the caller's mixed token
+abbrev pub mixedOf : Call → List ℕ
+mixedOf c = c .lent .mixed
+
+-- ---- "a lent result that this command uses has a wrong length or number"
+
+unfoldable pub profileOk : Lent → Bool
+profileOk l =
+    fits aaid (l .aaid) && fits metadata (l .metadata) && ltb (l .version) 65536 && ltb (l .signatureAlgorithm) 65536
+    && ltb (l .keyAlgorithm) 65536
+
+-- the verdict is 0 to 5, the display result 0 to 3
+unfoldable pub lentOk : Kind → Lent → Bool
+lentOk getInfo l = profileOk l
+lentOk register l =
+    profileOk l && leb (l .verdict) 5 && fits mixedToken (l .mixed) && fits keyId (l .keyId) && fits publicKey (l .publicKey)
+lentOk sign l =
+    profileOk l && leb (l .verdict) 5 && leb (l .display) 3 && fits mixedToken (l .mixed) && fits nonce (l .nonce)
+    && fits (contentHash true) (l .contentHash)
+lentOk deregister l = fits mixedToken (l .mixed)
+lentOk openSettings l = true
+
+-- ---- the first check that fails answers with its number
+
+pub record Check : Type 0 where
+  pub says : ℕ
+  pub fails : Bool
+
+abbrev pub check : ℕ → Bool → Check
+check n b = record { says = n; fails = b }
+
+unfoldable pub judge : {A : Type 0} → List Check → (ℕ → A) → A → A
+judge [] says passed = passed
+judge (c ∷ cs) says passed = cond (c .fails) (says (c .says)) (judge cs says passed)
+
+-- one refusal, or a result
+pub data Result (A : Type 0) : Type 0 where
+  refused : ℕ → Result A
+  gave : A → Result A
+
+-- ---- what a command answers, and what it changes in the table
+
+pub data Answer : Type 0 where
+  response : List ℕ → Answer
+  draft : List ℕ → Answer
+
+-- a change is of the caller's own records only
+pub data Change : Type 0 where
+  keep : Change
+  add : (keyId name : List ℕ) → Change
+  setCount : (keyId : List ℕ) → ℕ → Change
+  remove : (keyId : List ℕ) → Change
+  removeAll : Change
+
+abbrev pub isKey : List ℕ → List ℕ → Record → Bool
+isKey m k r = hasMixed m r && eqBytes (r .keyId) k
+
+abbrev pub withCount : Record → ℕ → Record
+withCount r n = record { keyId = r .keyId; mixed = r .mixed; name = r .name; count = n }
+
+-- "appended with counter 0"; "Removal closes the gap"
+unfoldable pub apply : List ℕ → Change → Table → Table
+apply m keep t = t
+apply m (add k n) t = t ++ (record { keyId = k; mixed = m; name = n; count = 0 } ∷ [])
+apply m (setCount k n) t = map (λ r. cond (isKey m k r) (withCount r n) r) t
+apply m (remove k) t = select (λ r. not (isKey m k r)) t
+apply m removeAll t = select (λ r. not (hasMixed m r)) t
+
+pub record Decision : Type 0 where
+  pub answer : Answer
+  pub change : Change
+
+abbrev pub responseTag : Kind → ℕ
+responseTag getInfo = 0x3601
+responseTag register = 0x3602
+responseTag sign = 0x3603
+responseTag deregister = 0x3604
+responseTag openSettings = 0x3606
+
+-- "holds STATUS_CODE (2 bytes) only": the statuses that each command can give so
+abbrev pub statuses : Kind → List ℕ
+statuses getInfo = 0x08 ∷ []
+statuses register = 0x01 ∷ 0x02 ∷ 0x03 ∷ 0x05 ∷ 0x07 ∷ 0x08 ∷ 0x0E ∷ 0x0F ∷ 0x10 ∷ []
+statuses sign = 0x01 ∷ 0x02 ∷ 0x03 ∷ 0x04 ∷ 0x05 ∷ 0x08 ∷ 0x0E ∷ 0x10 ∷ []
+statuses deregister = 0x00 ∷ 0x02 ∷ 0x08 ∷ []
+statuses openSettings = 0x06 ∷ 0x08 ∷ []
+
+abbrev pub statusOnly : Kind → Layout
+statusOnly k = group (responseTag k) (field (statusAmong (statuses k)) end) end
+
+unfoldable pub only : Kind → Change → ℕ → Decision
+only k c n = record { answer = response (write (statusOnly k) (le 2 n ∷ [])); change = c }
+
+-- "1 ACCESS_DENIED 0x02, 2 USER_NOT_ENROLLED 0x03, 3 USER_CANCELLED 0x05, 4 USER_NOT_RESPONSIVE 0x0E, 5 USER_LOCKOUT 0x10"
+abbrev pub verdictStatus : ℕ → ℕ
+verdictStatus v = getD (0x00 ∷ 0x02 ∷ 0x03 ∷ 0x05 ∷ 0x0E ∷ 0x10 ∷ []) v 0x00
+
+-- "1 0x05, 2 CANNOT_RENDER_TRANSACTION_CONTENT 0x04, 3 0x0E"
+abbrev pub displayStatus : ℕ → ℕ
+displayStatus d = getD (0x00 ∷ 0x05 ∷ 0x04 ∷ 0x0E ∷ []) d 0x00
+
+-- ---- GetInfo: "STATUS_CODE OK 0x00, API_VERSION (1 byte) 1, AUTHENTICATOR_INFO with index, AAID, METADATA, content type text/plain,
+-- the eight letters UAFV1TLV as ASSERTION_SCHEME, then one ATTESTATION_TYPE each for 0x3E07 and 0x3E08, in this order"
+
+abbrev pub info : Layout
+info =
+    group (responseTag getInfo)
+    (field ok
+    (field apiVersion
+    (group 0x3811 (fields (index ∷ aaid ∷ metadata ∷ contentType ∷ assertionScheme ∷ fullType ∷ surrogateType ∷ [])) end)))
+    end
+
+abbrev pub infoFields : Lent → List (List ℕ)
+infoFields l =
+    le 2 0 ∷ (1 ∷ []) ∷ (0 ∷ []) ∷ l .aaid ∷ l .metadata ∷ textPlain ∷ uafV1Tlv ∷ le 2 full ∷ le 2 surrogate ∷ []
+
+unfoldable pub infoResponse : Lent → List ℕ
+infoResponse l = write info (infoFields l)
+
+unfoldable pub decideGetInfo : List ℕ → Lent → Decision
+decideGetInfo s l =
+    judge (check 0x08 (broken getInfo s) ∷ []) (only getInfo keep)
+    (record { answer = response (infoResponse l); change = keep })
+
+-- ---- Register: "KRD: AAID, ASSERTION_INFO (version, mode 0x01, both algorithms; 7 bytes), challenge hash, KEYID, COUNTERS
+-- (SignCounter 0, RegCounter 0; 4 bytes each), PUB_KEY"
+
+abbrev pub krdTag : ℕ
+krdTag = 0x3E03
+
+abbrev pub keyRegistrationData : Layout → Layout
+keyRegistrationData rest =
+    group krdTag (fields (aaid ∷ assertionInfo 7 0x01 ∷ challengeHash ∷ keyId ∷ noCounts ∷ publicKey ∷ [])) rest
+
+abbrev pub registerFields : List ℕ → Lent → List (List ℕ)
+registerFields s l =
+    l .aaid ∷ (le 2 (l .version) ++ (0x01 ∷ le 2 (l .signatureAlgorithm) ++ le 2 (l .keyAlgorithm))) ∷ fieldIn challengeHash s
+    ∷ l .keyId ∷ (le 4 0 ++ le 4 0) ∷ l .publicKey ∷ []
+
+unfoldable pub registerDraft : List ℕ → Lent → List ℕ
+registerDraft s l = write (keyRegistrationData end) (registerFields s l)
+
+-- mine: the caller's records; taken: the KeyID is stored, by anybody; filled: there are 32 records in all
+unfoldable pub registerChecks : List ℕ → Lent → Table → Bool → Bool → List Check
+registerChecks s l mine taken filled =
+    let type = num (fieldIn attestationType s) in
+    check 0x08 (broken register s)
+    ∷ check (verdictStatus (l .verdict)) (not (eqb (l .verdict) 0))
+    ∷ check 0x07 (not (eqb type full || eqb type surrogate))
+    ∷ check 0x01 taken
+    ∷ check 0x0F (leb maxOwn (length mine) || filled)
+    ∷ []
+
+unfoldable pub decideRegister : List ℕ → Lent → Table → Bool → Bool → Decision
+decideRegister s l mine taken filled =
+    judge (registerChecks s l mine taken filled) (only register keep)
+    (record { answer = draft (registerDraft s l); change = add (l .keyId) (fieldIn username s) })
+
+-- ---- Sign
+
+-- "Chosen are records with the lent mixed token and, if key handles are given, a KeyID among them"
+unfoldable pub chosen : List (List ℕ) → Table → Table
+chosen handles mine = select (λ r. empty handles || among (r .keyId) handles) mine
+
+-- "Several: OK with a USERNAME_AND_KEYHANDLE (USERNAME, KEYHANDLE) for each, oldest first"
+abbrev pub nameRows : ℕ → Layout
+nameRows zero = end
+nameRows (suc n) = group pairTag (fields (username ∷ keyHandle ∷ [])) (nameRows n)
+
+abbrev pub nameList : ℕ → Layout
+nameList n = group (responseTag sign) (field ok (nameRows n)) end
+
+abbrev pub nameFields : Table → List (List ℕ)
+nameFields [] = []
+nameFields (r ∷ rs) = r .name ∷ r .keyId ∷ nameFields rs
+
+unfoldable pub nameResponse : Table → List ℕ
+nameResponse rs = write (nameList (length rs)) (le 2 0 ∷ nameFields rs)
+
+-- "SIGNED_DATA: AAID, ASSERTION_INFO (version, mode, signature algorithm; 5 bytes), NONCE, challenge hash, TRANSACTION_CONTENT_HASH,
+-- KEYID, COUNTERS (new count). Mode is 0x02 with content, else 0x01 and a hash of length 0"
+abbrev pub signedTag : ℕ
+signedTag = 0x3E04
+
+abbrev pub signedData : Bool → Layout → Layout
+signedData content rest =
+    group signedTag
+    (fields
+    (aaid ∷ assertionInfo 5 (cond content 0x02 0x01) ∷ nonce ∷ challengeHash ∷ contentHash content ∷ keyId ∷ newCount ∷ []))
+    rest
+
+unfoldable pub hasContent : List ℕ → Bool
+hasContent s = not (empty (fieldIn transactionContent s))
+
+abbrev pub signFields : Bool → List ℕ → Lent → Record → List (List ℕ)
+signFields content s l r =
+    l .aaid ∷ (le 2 (l .version) ++ (cond content 0x02 0x01 ∷ le 2 (l .signatureAlgorithm))) ∷ l .nonce ∷ fieldIn challengeHash s
+    ∷ cond content (l .contentHash) [] ∷ r .keyId ∷ le 4 (suc (r .count)) ∷ []
+
+unfoldable pub signDraft : List ℕ → Lent → Record → List ℕ
+signDraft s l r = write (signedData (hasContent s) end) (signFields (hasContent s) s l r)
+
+-- "One: with non-empty transaction content the display result ..; then 0x01 if the counter is 4,294,967,295. Else the counter rises by 1"
+unfoldable pub signOne : List ℕ → Lent → Record → Decision
+signOne s l r =
+    judge
+    (check (displayStatus (l .display)) (hasContent s && not (eqb (l .display) 0)) ∷ check 0x01 (eqb (r .count) maxCount) ∷ [])
+    (only sign keep)
+    (record { answer = draft (signDraft s l r); change = setCount (r .keyId) (suc (r .count)) })
+
+-- "None: 0x02. Several: OK with .., no counter moved"
+unfoldable pub signChosen : List ℕ → Lent → Table → Decision
+signChosen s l [] = only sign keep 0x02
+signChosen s l (r ∷ []) = signOne s l r
+signChosen s l (r ∷ q ∷ rs) = record { answer = response (nameResponse (r ∷ q ∷ rs)); change = keep }
+
+unfoldable pub decideSign : List ℕ → Lent → Table → Decision
+decideSign s l mine =
+    judge (check 0x08 (broken sign s) ∷ check (verdictStatus (l .verdict)) (not (eqb (l .verdict) 0)) ∷ []) (only sign keep)
+    (signChosen s l (chosen (fieldsIn keyHandle s) mine))
+
+-- ---- Deregister: "An empty KeyID removes all records of the mixed token and is OK even for none. Else the record with that KeyID and
+-- mixed token goes; if there is none, 0x02"
+
+unfoldable pub decideDeregister : List ℕ → Table → Decision
+decideDeregister s mine =
+    let k = fieldIn keyIdOrNone s in
+    judge (check 0x08 (broken deregister s) ∷ check 0x02 (not (empty k || among k (keyIds mine))) ∷ []) (only deregister keep)
+    (only deregister (cond (empty k) removeAll (remove k)) 0x00)
+
+-- ---- Open settings
+
+unfoldable pub decideOpenSettings : List ℕ → Decision
+decideOpenSettings s = judge (check 0x08 (broken openSettings s) ∷ []) (only openSettings keep) (only openSettings keep 0x06)
+
+-- ---- every call
+
+-- a command is decided from the caller's own records and, for Register, two facts about the rest
+unfoldable pub decide : Kind → List ℕ → Lent → Table → Bool → Bool → Decision
+decide getInfo s l mine taken filled = decideGetInfo s l
+decide register s l mine taken filled = decideRegister s l mine taken filled
+decide sign s l mine taken filled = decideSign s l mine
+decide deregister s l mine taken filled = decideDeregister s mine
+decide openSettings s l mine taken filled = decideOpenSettings s
+
+-- what is written into the response output, and the table left
+pub record Effect : Type 0 where
+  pub answer : Answer
+  pub left : Table
+
+unfoldable pub perform : Kind → Call → Table → Effect
+perform k c t =
+    let d = decide k (c .command) (c .lent) (own (mixedOf c) t) (among (c .lent .keyId) (keyIds t)) (leb maxRecords (length t)) in
+    record { answer = d .answer; left = apply (mixedOf c) (d .change) t }
+
+-- "1, response output shorter than 4,096 or, where a stored table is written, its own output shorter than 6,912"
+abbrev pub leastOutput : ℕ
+leastOutput = 4096
+
+-- (no table output is none too short)
+abbrev pub shortOutput : ℕ → Option ℕ → Bool
+shortOutput n table = ltb n leastOutput || ltb (Option·getD table maxStored) maxStored
+
+-- a call is given the table itself or its stored form; none if "the table or its stored form breaks a rule"
+pub data Given : Type 0 where
+  value : Table → Given
+  stored : List ℕ → Given
+
+unfoldable pub tableOf : Given → Option Table
+tableOf (value t) = cond (tableOk t) (some t) none
+tableOf (stored s) = decode s
+
+-- "Calls first check"; past the checks there is a kind, and there is a table
+abbrev pub kind : Call → Kind
+kind c = Option·getD (kindOf (c .command)) getInfo
+
+unfoldable pub refusals : Call → Given → List Check
+refusals c g =
+    check 1 (shortOutput (c .output) (c .tableOutput))
+    ∷ check 2 (not (given (tableOf g)))
+    ∷ check 3 (not (given (kindOf (c .command))))
+    ∷ check 4 (not (lentOk (kind c) (c .lent)))
+    ∷ []
+
+unfoldable pub outcome : Call → Given → Result Effect
+outcome c g = judge (refusals c g) refused (gave (perform (kind c) c (Option·getD (tableOf g) [])))
+
+-- ---- the outputs of a call
+
+abbrev pub bytesOf : Answer → List ℕ
+bytesOf (response s) = s
+bytesOf (draft s) = s
+
+-- an output into which s was written: "bytes beyond them are unchanged"
+abbrev pub over : List ℕ → List ℕ → List ℕ
+over s out = s ++ drop (length s) out
+
+-- the response output and the table output, if there is one, after a call: "A table output gets the stored form of the table left"
+pub record Outputs : Type 0 where
+  pub response : List ℕ
+  pub table : Option (List ℕ)
+
+unfoldable pub outputs : Result Effect → Outputs → Outputs
+outputs (refused n) o = o
+outputs (gave e) o =
+    record { response = over (bytesOf (e .answer)) (o .response); table = Option·map (over (encode (e .left))) (o .table) }
