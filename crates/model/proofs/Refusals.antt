@@ -11,15 +11,16 @@ use lib.ListN.{length, take, drop, length-append, length-drop}
 use lib.Seq.{take-append-seam, drop-append-seam}
 use lib.Dec.{ltb}
 use borrow.Author.Tests.{lt-ltb, le-ltb, ltb-false}
-use Rattle.model.specs.Tlv.{num, Kind, kindOf}
+use Rattle.model.specs.Tlv.{Bytes, num, Kind, kindOf}
 use Rattle.model.specs.Records.{Table, encode}
 use Rattle.model.specs.Commands.{Call, Given, Result, refused, gave, judge, lentOk, tableOf, refusals, Effect, perform, outcome, bytesOf, over, Outputs, outputs}
-use Rattle.model.specs.Complete.{Completion, isDraft, completionOk, completed, complete}
+use Rattle.model.specs.Complete.{Completion, isDraft, completionOk, completed, complete, outputOf}
 use Rattle.model.specs.Reader.{isResponse, signedPart, fieldParts, readResponse}
 use Rattle.model.proofs.Basics.{split, or-left, judged}
 use Rattle.model.proofs.StoredForm.{length-encode}
 use Rattle.model.proofs.Kept.{kept}
 use Rattle.model.proofs.CommandWrites.{answer-fits}
+use Rattle.model.proofs.CompletionWrites.{completed-fits}
 
 -- ---- calls (no table output is none too short: 6912 stands in for its length)
 
@@ -116,6 +117,14 @@ module _ (c : Completion) where
       pub completes : completionOk c ≡ true → complete c ≡ gave (completed c)
       unfolding complete judge
       completes e = rw (le-ltb _ _ room, d, e)
+
+-- the response output of a completion: as it was after a refusal, else the response and the rest as it was
+pub refused-completion : (n : ℕ) (out : List ℕ) → outputOf (refused n) out ≡ out
+refused-completion n out = refl
+
+pub completion-over : (c : Completion) (s out : List ℕ) → Bytes (c .draft) → complete c ≡ gave s → 4096 ≤ length out
+    → Over s out (outputOf (complete c) out)
+completion-over c s out b e h = rw e (is-over s out (omega (arith, completed-fits c s b e)))
 
 -- ---- readings
 

@@ -291,7 +291,7 @@ perform k c t =
 abbrev pub leastOutput : ℕ
 leastOutput = 4096
 
--- (no table output is none too short)
+-- without a table output none is too short
 abbrev pub shortOutput : ℕ → Option ℕ → Bool
 shortOutput n table = ltb n leastOutput || ltb (Option·getD table maxStored) maxStored
 
