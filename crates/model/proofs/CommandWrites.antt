@@ -132,7 +132,7 @@ unfolding lentOk profileOk fitAll fits le eqBytes
 info-fit l p =
     let a : fits aaid (l .aaid) ≡ true = search (and-left, and-right) in
     let m : fits metadata (l .metadata) ≡ true = search (and-left, and-right) in
-    cc
+    both (both (both a (both m refl)) refl) refl
 
 module _ (q : List ℕ) (l : Lent) (rs : Table) where
   get-info-good : lentOk getInfo l ≡ true → Good q l rs getInfo (decideGetInfo q l .answer)
@@ -179,7 +179,8 @@ register-writes q l p b =
     let i : fits keyId (l .keyId) ≡ true = search (and-left, and-right) in
     let k : fits publicKey (l .publicKey) ≡ true = search (and-left, and-right) in
     let c : fits challengeHash (fieldIn challengeHash q) ≡ true = field-fits register q challengeHash b refl in
-    record { listed = member 0 end (drafts register) (omega arith); fit = cc; number = refl; written = refl }
+    let f : fitAll (keyRegistrationData end) (registerFields q l) ≡ true = both (both a (both c (both i (both k refl)))) refl in
+    record { listed = member 0 end (drafts register) (omega arith); fit = f; number = refl; written = refl }
 
 register-good : (q : List ℕ) (l : Lent) (rs mine : Table) (taken filled : Bool) → lentOk register l ≡ true
     → Good q l rs register (decideRegister q l mine taken filled .answer)
@@ -278,7 +279,9 @@ sign-writes q l r p b o u =
     let mode : ℕ = cond (hasContent q) 0x02 0x01 in
     record {
       listed = signed-listed (hasContent q);
-      fit = cc (eq-eqb mode mode refl, hash-fits (hasContent q) (l .contentHash) h, count-fits (r .count) u);
+      fit =
+          both (both a (both (eq-eqb mode mode refl) (both n (both c (both (hash-fits (hasContent q) (l .contentHash) h) (both k
+          (both (count-fits (r .count) u) refl))))))) refl;
       number = refl;
       written = refl;
     }

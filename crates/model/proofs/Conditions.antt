@@ -15,6 +15,7 @@ use Rattle.model.specs.Commands.{Lent, refused, gave, response, draft, r
 use Rattle.model.specs.Traces.{Form, itself, inStoredForm, Step, callsOf, Seen, observe, final, fresh, roomy, Comparable}
 use Rattle.model.proofs.Computing.{computing}
 use Rattle.model.proofs.Witness.{zeros, byte, child, command, lending}
+use Rattle.model.proofs.Separation.{run, run-is, separation}
 
 -- ---- calls
 
@@ -132,15 +133,26 @@ pub record MetFull : Type 0 where
   pub records : own (id 1) (final filling []) ≡ key 1 1 1 ∷ []
   pub full : length (final filling []) ≡ 32
 
+comparable : Comparable (id 1) refusing filling
+unfolding computing
+comparable = record { holder = refl; same = refl; fresh-a = refl; fresh-b = refl; roomy-a = refl; roomy-b = refl }
+
+-- 9's part, in one run; the holder's part is that of `refusing`, by the separation
+run-of-9 : run (id 9) filling [] ≡ record { seen = told register 0x0F ∷ told register 0x0F ∷ []; room = false; size = 32 }
+unfolding computing
+run-of-9 = refl
+
 pub met-full : MetFull
 unfolding computing
 met-full =
+    let s = separation (id 1) refusing filling comparable in
+    let r = run-is (id 9) filling [] refl ∙ run-of-9 in
     record {
-      conditions = record { holder = refl; same = refl; fresh-a = refl; fresh-b = refl; roomy-a = refl; roomy-b = refl };
-      holder = refl;
-      stranger = refl;
-      records = refl;
-      full = refl;
+      conditions = comparable;
+      holder = sym (s .seen);
+      stranger = ap (λ r. r .seen) r;
+      records = sym (s .records);
+      full = ap (λ r. r .size) r;
     }
 
 -- ---- without freshness, or without room, the holder can tell: quietly it registers, and in b it is told a status
@@ -184,6 +196,14 @@ pub freshness-needed : Needed repeated false true 0x01
 unfolding computing
 freshness-needed = needed repeated false true 0x01 refl refl refl refl
 
+-- the holder's part, in one run
+run-crowded : run (id 1) crowded []
+    ≡ record { seen = told register 0x0F ∷ told sign 0x02 ∷ told deregister 0x00 ∷ []; room = false; size = 32 }
+unfolding computing
+run-crowded = refl
+
 pub room-needed : Needed crowded true false 0x0F
 unfolding computing
-room-needed = needed crowded true false 0x0F refl refl refl refl
+room-needed =
+    let r = run-is (id 1) crowded [] refl ∙ run-crowded in
+    needed crowded true false 0x0F refl refl (ap (λ r. r .room) r) (ap (λ r. first (r .seen)) r)

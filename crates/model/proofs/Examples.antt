@@ -8,7 +8,7 @@ use lib.ListN.{length, replicate}
 use Rattle.model.specs.Records.{Record, Table}
 use Rattle.model.specs.Commands.{Lent, Result, refused, gave, Answer, response, draft, outcome}
 use Rattle.model.specs.Traces.{Form, itself, inStoredForm, handed, answered}
-use Rattle.model.proofs.Computing.{computing}
+use Rattle.model.proofs.Computing.{computing, each-form}
 
 -- an allowed profile and allowed lent results: verified, and every record below is the caller's
 abbrev pub holder : List ℕ
@@ -109,8 +109,7 @@ p1ToP9 =
 
 pub examples : Computed p1ToP9
 unfolding computing
-examples itself = refl
-examples inStoredForm = refl
+examples = each-form _ refl refl
 
 sizes : (length info ≡ 94) × (length annThenBoListed ≡ 103)
 sizes = (refl, refl)
@@ -162,5 +161,4 @@ edges =
 
 pub edge-examples : Computed edges
 unfolding computing
-edge-examples itself = refl
-edge-examples inStoredForm = refl
+edge-examples = each-form _ refl refl

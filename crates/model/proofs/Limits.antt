@@ -14,7 +14,7 @@ use Rattle.model.specs.Records.{Table}
 use Rattle.model.specs.Commands.{Lent, Result, refused, gave, Answer, response, draft, outcome}
 use Rattle.model.specs.Traces.{Form, itself, inStoredForm, handed, answered}
 use Rattle.model.proofs.Basics.{and-left, and-right, eqBytes-eq}
-use Rattle.model.proofs.Computing.{computing}
+use Rattle.model.proofs.Computing.{computing, each-form}
 use Rattle.model.proofs.Witness.{zeros, lending}
 use Rattle.model.proofs.Examples.{lent, stands}
 
@@ -373,5 +373,4 @@ turns f =
 
 pub refusals-in-turn : (f : Form) → Holds (turns f)
 unfolding computing
-refusals-in-turn itself = holds (turns itself) refl
-refusals-in-turn inStoredForm = holds (turns inStoredForm) refl
+refusals-in-turn = each-form _ (holds (turns itself) refl) (holds (turns inStoredForm) refl)

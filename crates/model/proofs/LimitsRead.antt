@@ -15,7 +15,7 @@ use Rattle.model.specs.Commands.{Result, refused, gave, tableOf}
 use Rattle.model.specs.Complete.{isDraft, completionOk, completed, complete}
 use Rattle.model.specs.Reader.{Part, partsAt, parts, fieldParts, isResponse, signedPart, readResponse}
 use Rattle.model.specs.Traces.{Form, itself, inStoredForm, handed}
-use Rattle.model.proofs.Computing.{computing}
+use Rattle.model.proofs.Computing.{computing, each-form}
 use Rattle.model.proofs.Witness.{zeros}
 use Rattle.model.proofs.Examples.{annThenBoListed}
 use Rattle.model.proofs.Limits.{Row, _gives_, Holds, holds}
@@ -352,5 +352,4 @@ tables f =
 
 pub table-rules : (f : Form) → Holds (tables f)
 unfolding computing
-table-rules itself = holds (tables itself) refl
-table-rules inStoredForm = holds (tables inStoredForm) refl
+table-rules = each-form _ (holds (tables itself) refl) (holds (tables inStoredForm) refl)

@@ -11,7 +11,7 @@ use borrow.Author.Tests.{ltb-true, lt-leb, not-true}
 use Rattle.model.specs.Lists.{all, empty, eqBytes, among}
 use Rattle.model.specs.Tlv.{Kind, getInfo, register, sign, deregister, openSettings, kinds, isCommand, kindOf, keyIdOrNone, fieldIn}
 use Rattle.model.specs.Records.{Record, Table, own, keyIds, hasMixed, tableOk, maxRecords}
-use Rattle.model.specs.Commands.{Lent, Call, mixedOf, Check, judge, Result, refused, gave, Answer, Change, keep, add, setCount, remove, removeAll, isKey, withCount, apply, Decision, only, decideGetInfo, decideRegister, signOne, signChosen, decideSign, decideDeregister, decideOpenSettings, decide, perform, value, tableOf, kind, refusals, outcome}
+use Rattle.model.specs.Commands.{Lent, Call, mixedOf, Check, judge, Result, refused, gave, Answer, Change, keep, add, setCount, remove, removeAll, isKey, withCount, apply, Decision, only, decideGetInfo, decideRegister, signOne, signChosen, decideSign, decideDeregister, decideOpenSettings, decide, Effect, perform, value, tableOf, kind, refusals, outcome}
 use Rattle.model.specs.Traces.{Form, itself, inStoredForm, Step, handed, result, leftBy, next, final, isOf, callsOf, answered, Seen, observe, registers, fresh, roomy, SeparationOfHolders}
 use Rattle.model.proofs.Basics.{split, clash, and-left, and-right, both, eqBytes-eq, eqBytes-refl, eqBytes-sym, all-same, all-append, all-select, select-append, select-comm, select-narrow, select-map, map-select, all-map, first-passes, judged, judge-map}
 use Rattle.model.proofs.StoredForm.{decode-encode}
@@ -271,3 +271,32 @@ separation h a b c =
     let p = alone h [] a [] (record { rules = refl; lent = refl; new = c .fresh-a; room = c .roomy-a }) in
     let q = alone h [] b [] (record { rules = refl; lent = refl; new = c .fresh-b; room = c .roomy-b }) in
     record { seen = cc; records = cc }
+
+-- ---- a trace run with no check of the table, which computes in a third of the time: a table that obeys the rules needs none
+
+-- what a holder sees, whether it finds room, and how many records are left; the same with a call before
+pub record Run : Type 0 where
+  pub seen : List Seen
+  pub room : Bool
+  pub size : ℕ
+
+abbrev pub before : List ℕ → Step → Table → Result Effect → Run → Run
+before h s t r rest =
+    record {
+      seen = cond (isOf h s) (record { answer = answered r; records = own h (leftBy r t) } ∷ rest .seen) (rest .seen);
+      room = cond (isOf h s && registers s) (ltb (length t) maxRecords) true && rest .room;
+      size = rest .size;
+    }
+
+abbrev pub run : List ℕ → List Step → Table → Run
+run h [] t = record { seen = []; room = true; size = length t }
+run h (s ∷ ss) t =
+    let r = judge (refusals (s .call) (value [])) refused (gave (perform (kind (s .call)) (s .call) t)) in
+    before h s t r (run h ss (leftBy r t))
+
+pub run-is : (h : List ℕ) (ss : List Step) (t : Table) → tableOk t ≡ true
+    → record { seen = observe h ss t; room = roomy h ss t; size = length (final ss t) } ≡ run h ss t
+unfolding observe roomy final next checks
+run-is h [] t e = refl
+run-is h (s ∷ ss) t e =
+    ap (before h s t (result s t)) (run-is h ss (next s t) (next-kept s t e)) ∙ rw (result-is s t e)

@@ -8,7 +8,7 @@ use lib.ListN.{replicate}
 use Rattle.model.specs.Records.{Record, Table}
 use Rattle.model.specs.Commands.{Result, gave, Answer, response, draft, outcome, withCount}
 use Rattle.model.specs.Traces.{Form, itself, inStoredForm, handed, answered, leftBy}
-use Rattle.model.proofs.Computing.{computing}
+use Rattle.model.proofs.Computing.{computing, each-form}
 use Rattle.model.proofs.Examples.{lent, stands, signCommand, annThenBo, annThenBoListed}
 
 -- the commands of one caller, in order, on a table, and their answers
@@ -107,5 +107,4 @@ traps =
 
 pub trapped : (f : Form) → map (λ t. run f (t .commands) (t .table)) traps ≡ map (λ t. t .expected) traps
 unfolding computing
-trapped itself = refl
-trapped inStoredForm = refl
+trapped = each-form _ refl refl

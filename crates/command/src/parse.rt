@@ -1,0 +1,92 @@
+use crate::children::are_children;
+use crate::children::gather;
+use crate::children::times_ok;
+use crate::children::values_of;
+use crate::kinds;
+use crate::kinds::Kind;
+use fields::Field;
+use tlv::reader::Span;
+use tlv::reader::Spans;
+use tlv::reader::is_whole;
+ghost use mathlib.Core.Path.{_≡_};
+ghost use Rattle.model.specs.Tlv.{broken};
+ghost use mathlib.Core.Bool.{false};
+ghost use Rattle.command.specs.Kinds.{kindIs};
+ghost use Rattle.command.specs.Parse.{HandlesPlaced, noFields, Answers};
+
+// Where the key handles stand.
+fn handles_in(s: &[u8], kind: Kind) -> Spans
+    requires { ⌜ broken (kindIs kind) (now s) ≡ false ⌝ }
+    ensures { λ r. ⌜ HandlesPlaced (now (s .entry)) r ⌝ }
+{
+    let v = values_of(s, 4, Field::KeyHandle);
+    let at = v.at;
+    Spans { at, len: v.times }
+}
+
+// The fields of a command: whether it breaks a rule and, if not, where each field's bytes stand in it.
+pub struct Fields {
+    pub broken: bool,
+    pub app_id: Span,
+    pub challenge_hash: Span,
+    pub username: Span,
+    pub attestation_type: Span,
+    pub access_token: Span,
+    pub key_id: Span,
+    pub transaction_content: Span,
+    pub handles: Spans,
+}
+
+fn no_fields() -> Fields
+    ensures { λ r. ⌜ r ≡ noFields ⌝ }
+{
+    let none = Span { start: 0, end: 0 };
+    Fields {
+        broken: true,
+        app_id: none,
+        challenge_hash: none,
+        username: none,
+        attestation_type: none,
+        access_token: none,
+        key_id: none,
+        transaction_content: none,
+        handles: Spans {
+            at: [none; 8],
+            len: 0,
+        },
+    }
+}
+
+// "A command is at most 8,192 bytes".
+const MAX_COMMAND: usize = 8192;
+
+// Reads a command of this kind. Its child run, which starts after the four header bytes, is passed on as a part of it.
+pub fn fields_of(s: &[u8], kind: Kind) -> Fields
+    ensures { λ r. ⌜ Answers (kindIs kind) (now (s .entry)) r ⌝ }
+{
+    if MAX_COMMAND < s.len() {
+        return no_fields();
+    }
+    if !is_whole(s) {
+        return no_fields();
+    }
+    if !are_children(&s[4..], kind) {
+        return no_fields();
+    }
+    let given = gather(s, 4);
+    if !times_ok(given, kind) {
+        return no_fields();
+    }
+    let handles = handles_in(s, kind);
+    Fields {
+        broken: false,
+        app_id: given.first[kinds::APP_ID],
+        challenge_hash: given.first[kinds::CHALLENGE_HASH],
+        username: given.first[kinds::USERNAME],
+        attestation_type: given.first[kinds::ATTESTATION_TYPE],
+        transaction_content: given.first[kinds::TRANSACTION_CONTENT],
+        key_id: given.first[kinds::KEY_ID],
+        access_token: given.first[kinds::ACCESS_TOKEN],
+        handles,
+    }
+}

@@ -1,0 +1,2 @@
+-- The laws of fields read at a place.
+pub mod FieldLaws

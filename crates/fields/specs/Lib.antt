@@ -1,0 +1,2 @@
+-- The code's fields in the words of `model`.
+pub mod Fields

@@ -1,0 +1,9 @@
+-- The laws of tables by value: their view, their columns and rules, lookups, changes, and the stored form both ways.
+pub mod ViewLaws
+pub mod ColumnLaws
+pub mod LookupLaws
+pub mod RuleLaws
+pub mod TidyLaws
+pub mod ChangeLaws
+pub mod StoreLaws
+pub mod LoadLaws

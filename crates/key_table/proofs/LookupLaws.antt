@@ -1,0 +1,148 @@
+-- Which rows are chosen: the handles given, the places of the rows that pass, and the records at these places.
+-- Assumes nothing.
+use mathlib.Core.Path.{_≡_, refl, sym, ap, _∙_}
+use mathlib.Core.Bool.{Bool, true, false, _&&_, _||_}
+use mathlib.Core.List.{List, [], _∷_, _++_, map, append-assoc}
+use Prim.Native.Nat.{ℕ, zero, suc, _+_, _≤_, _<_}
+use native.Mathlib.Nat.{add-zero, pos-of-ne-zero}
+use native.Mathlib.Numerals.{add-one}
+use native.Mathlib.Omega.{arith}
+use lib.ListN.{length, getD, take, drop, set, length-map, drop-of-length-le, List·getD-map}
+use lib.Seq.{drop-cons, drop-drop, length-take-le, getD-take, getD-drop, take-suc-set}
+use Rattle.model.specs.Lists.{put, select, empty, eqBytes, among}
+use Rattle.model.specs.Records as model
+use Rattle.model.specs.Records.{own}
+use Rattle.model.specs.Commands.{chosen}
+use Rattle.model.proofs.Basics.{split, eqBytes-sym}
+use Rattle.tlv.specs.Heads.{part}
+use Rattle.tlv.specs.Spans.{noSpan, parts}
+use Rattle.tlv.specs.declared.reader.Spans.{Spans}
+use Rattle.key_table.specs.Columns.{cellOf, rows, row, times}
+use Rattle.key_table.specs.Lookups.{isChosen, places, chosenIn}
+use Rattle.key_table.specs.declared.columns.Cell.the-variants.{KeyId, Mixed}
+use Rattle.key_table.proofs.ColumnLaws.{rows-at, rows-end}
+
+-- ---- a walk over the handles given
+
+-- among handles, of which there is one
+given-one : (key : List ℕ) (hs : List (List ℕ)) → 0 < length hs → (empty hs || among key hs) ≡ among key hs
+given-one key [] h = absurd (omega arith)
+given-one key (x ∷ hs) h = refl
+
+module _ (s : List ℕ) (ps : Spans) (key : List ℕ) where
+  pub given-none : ps .len ≡ 0 → (empty (parts s ps) || among key (parts s ps)) ≡ true
+  unfolding parts
+  given-none e =
+      let n : parts s ps ≡ [] = ap (λ (n : ℕ). map (part s) (take n (ps .at))) e in
+      rw n
+
+  module _ (fits : ps .len ≤ length (ps .at)) where
+    length-parts : length (parts s ps) ≡ ps .len
+    unfolding parts
+    length-parts = simp (length-map, length-take-le (ps .len) (ps .at) fits)
+
+    pub given-some : (ps .len ≡ 0 → ⊥) → (empty (parts s ps) || among key (parts s ps)) ≡ among key (parts s ps)
+    given-some h = given-one key (parts s ps) (pos-of-ne-zero (λ e. h (sym length-parts ∙ e)))
+
+    pub given-end : (j : ℕ) → ps .len ≤ j → among key (drop j (parts s ps)) ≡ false
+    given-end j h = rw (drop-of-length-le (parts s ps) {i = j} (omega (arith, length-parts)))
+
+    module _ (j : ℕ) (h : j < ps .len) where
+      parts-at : drop j (parts s ps) ≡ part s (getD (ps .at) j noSpan) ∷ drop (j + 1) (parts s ps)
+      unfolding parts
+      parts-at =
+          let e : getD (parts s ps) j (part s noSpan) ≡ part s (getD (ps .at) j noSpan) =
+          List·getD-map (part s) (take (ps .len) (ps .at)) j noSpan ∙ ap (part s) (getD-take (ps .len) (ps .at) j noSpan h) in
+          drop-cons (parts s ps) j (part s noSpan) (omega (arith, length-parts)) ∙ rw (e, add-one)
+
+      -- at handle j, where b is what its test gave
+      pub given-at : (b : Bool) → b ≡ eqBytes key (part s (getD (ps .at) j noSpan))
+          → among key (drop j (parts s ps)) ≡ (b || among key (drop (j + 1) (parts s ps)))
+      given-at b e = rw parts-at (rw (eqBytes-sym (part s (getD (ps .at) j noSpan)) key, ← e))
+
+-- ---- a walk over two columns
+
+module _ (m : List ℕ) (hs : List (List ℕ)) (n i : ℕ) (owners keys : List ℕ) where
+  -- what the rows from place i on give
+  abbrev pub chosenFrom : List ℕ
+  chosenFrom = chosenIn m hs i (drop i (rows n owners)) (drop i (rows n keys))
+
+  pub chosen-end : n ≤ i → chosenFrom ≡ []
+  unfolding chosenIn
+  chosen-end h = rw (rows-end n i owners h)
+
+-- at row i, where a and b are what the tests of its mixed token and of its KeyID gave
+pub chosen-at : (m : List ℕ) (hs : List (List ℕ)) (n i : ℕ) (owners keys : List ℕ) → i < n → (a b : Bool)
+    → a ≡ eqBytes (row i owners) m → b ≡ (empty hs || among (row i keys) hs)
+    → chosenFrom m hs n i owners keys ≡ put (a && b) i (chosenFrom m hs n (i + 1) owners keys)
+unfolding chosenIn
+chosen-at m hs n i owners keys h a b e f = rw (rows-at n i owners h, rows-at n i keys h, add-one, ← e, ← f)
+
+-- a place stored after k others
+pub stored : (at is : List ℕ) (k i : ℕ) → k < length at → take k at ++ (i ∷ is) ≡ take (k + 1) (set at k i) ++ is
+stored at is k i h = rw (add-one k, take-suc-set at k i h) (sym (append-assoc (take k at) (i ∷ []) is))
+
+-- ---- the columns of a table
+
+-- how many records a mixed token has
+pub times-own : (m : List ℕ) (t : model.Table) → times m (map (cellOf Mixed) t) ≡ length (own m t)
+unfolding times own
+times-own m [] = refl
+times-own m (r ∷ t) =
+    let ih = times-own m t in
+    split (eqBytes (r .mixed) m) (λ e. rw e (ap suc ih)) (λ e. rw e ih)
+
+-- the places of the records chosen
+pub chosen-places : (m : List ℕ) (hs : List (List ℕ)) (i : ℕ) (t : model.Table)
+    → chosenIn m hs i (map (cellOf Mixed) t) (map (cellOf KeyId) t) ≡ places (isChosen m hs) i t
+unfolding chosenIn places
+chosen-places m hs i [] = refl
+chosen-places m hs i (r ∷ t) = ap (put (isChosen m hs r) i) (chosen-places m hs (suc i) t)
+
+-- ---- the places of the elements that pass a test
+
+module _ {A : Type 0} (p : A → Bool) (z : A) where
+  -- of the rest of a list from place i on
+  places-rest : (l : List A) (i : ℕ) (xs : List A) → drop i l ≡ xs → map (λ j. getD l j z) (places p i xs) ≡ select p xs
+  unfolding places
+  places-rest l i [] e = refl
+  places-rest l i (x ∷ xs) e =
+      let here : getD l i z ≡ x = sym (getD-drop i l 0 z ∙ rw add-zero) ∙ ap (λ (k : List A). getD k 0 z) e in
+      let rest : drop (suc i) l ≡ xs = sym (drop-drop 1 i l ∙ rw add-one) ∙ ap (drop 1) e in
+      let ih = places-rest l (suc i) xs rest in
+      split (p x) (λ q. rw (q, here, ih)) (λ q. rw q ih)
+
+  -- the elements at these places are those that pass
+  pub places-select : (xs : List A) → map (λ i. getD xs i z) (places p 0 xs) ≡ select p xs
+  places-select xs = places-rest xs 0 xs refl
+
+-- an element more that is below k
+put-below : (b : Bool) (i k : ℕ) (is : List ℕ) → i < k → ((j : ℕ) → j < length is → getD is j 0 < k)
+    → (j : ℕ) → j < length (put b i is) → getD (put b i is) j 0 < k
+put-below false i k is h f j l = f j l
+put-below true i k is h f zero l = h
+put-below true i k is h f (suc j) l = f j (omega arith)
+
+module _ {A : Type 0} (p : A → Bool) where
+  places-under : (i : ℕ) (xs : List A) (j : ℕ) → j < length (places p i xs) → getD (places p i xs) j 0 < i + length xs
+  unfolding places
+  places-under i [] j h = absurd (omega arith)
+  places-under i (x ∷ xs) j h =
+      put-below (p x) i (i + suc (length xs)) (places p (suc i) xs) (omega arith)
+      (λ k l. omega (arith, places-under (suc i) xs k l)) j h
+
+  -- each of them is a place of the list
+  pub places-below : (xs : List A) (j : ℕ) → j < length (places p 0 xs) → getD (places p 0 xs) j 0 < length xs
+  places-below xs j h = omega (arith, places-under 0 xs j h)
+
+-- ---- the records chosen are those of the definition
+
+select-both : {A : Type 0} (p q : A → Bool) (xs : List A) → select (λ x. p x && q x) xs ≡ select q (select p xs)
+select-both p q [] = refl
+select-both p q (x ∷ xs) =
+    let ih = select-both p q xs in
+    split (p x) (λ e. split (q x) (λ f. cc) (λ f. cc)) (λ e. cc)
+
+pub chosen-is : (m : List ℕ) (hs : List (List ℕ)) (t : model.Table) → select (isChosen m hs) t ≡ chosen hs (own m t)
+unfolding chosen own
+chosen-is m hs t = select-both (model.hasMixed m) (λ r. empty hs || among (r .keyId) hs) t

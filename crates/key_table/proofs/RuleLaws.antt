@@ -1,0 +1,75 @@
+-- The record rules of a row and of a table by value: what the arrays' lengths leave to test.
+-- Assumes nothing.
+use mathlib.Core.Path.{_≡_, refl, ap, _∙_}
+use mathlib.Core.Bool.{Bool, true, false, _&&_, and-true}
+use mathlib.Core.List.{List, [], _∷_, map}
+use Prim.Native.Nat.{ℕ, _≤_, _<_}
+use native.Mathlib.Omega.{arith}
+use lib.ListN.{length, take, drop, drop-of-length-le}
+use borrow.Author.Tests.{le-leb, lt-leb}
+use lib.Dec.{leb}
+use Rattle.model.specs.Lists.{all, distinct}
+use Rattle.model.specs.Tlv.{fits, keyId, mixedToken, username}
+use Rattle.model.specs.Records as model
+use Rattle.model.specs.Records.{recordOk, own, tableOk, maxCount, maxRecords, maxOwn}
+use Rattle.model.proofs.LayoutLaws.{size-fits}
+use Rattle.key_table.specs.Views.{firsts, viewRecord}
+use Rattle.key_table.specs.Columns.{cellOf, times, eachFew}
+use Rattle.key_table.specs.declared.columns.Cell.the-variants.{KeyId, Mixed}
+use Rattle.key_table.specs.declared.records.Record.{Record}
+use Rattle.key_table.proofs.ViewLaws.{firsts-take, length-firsts}
+use Rattle.key_table.proofs.LookupLaws.{times-own}
+
+-- ---- a test of each element, from a place on
+
+module _ {A : Type 0} (p : A → Bool) where
+  pub all-done : (xs : List A) (i : ℕ) → length xs ≤ i → all p (drop i xs) ≡ true
+  all-done xs i h = rw (drop-of-length-le xs h)
+
+  pub all-fails : {xs ys : List A} {x : A} → xs ≡ x ∷ ys → p x ≡ false → all p xs ≡ false
+  all-fails e h = rw (e, h)
+
+  pub all-more : {xs ys : List A} {x : A} → xs ≡ x ∷ ys → p x ≡ true → all p xs ≡ all p ys
+  all-more e h = rw (e, h)
+
+-- ---- a record
+
+long-name : (v : List ℕ) → 128 < length v → fits username v ≡ false
+unfolding fits
+long-name v h = let k : 1 ≤ length v = omega arith in simp (le-leb _ _ k, lt-leb _ _ h)
+
+-- a row whose arrays are as long, and whose counter as small, as their types say
+pub record Typed (r : Record) : Type 0 where
+  pub key-id : length (r .«key_id») ≡ 32
+  pub mixed : length (r .mixed) ≡ 32
+  pub name : length (r .name) ≡ 128
+  pub count : r .count ≤ maxCount
+
+module _ (r : Record) (typed : Typed r) where
+  -- of its record only the name is left to test
+  name-decides : recordOk (viewRecord r) ≡ fits username (firsts 0 (r .«name_len») (r .name))
+  unfolding recordOk
+  name-decides =
+      let k : fits keyId (r .«key_id») ≡ true = size-fits keyId (r .«key_id») (omega arith) (omega arith) refl in
+      let m : fits mixedToken (r .mixed) ≡ true = size-fits mixedToken (r .mixed) (omega arith) (omega arith) refl in
+      simp (k, m, le-leb (r .count) maxCount (typed .count)) (and-true (fits username (firsts 0 (r .«name_len») (r .name))))
+
+  pub name-long : 128 < r .«name_len» → recordOk (viewRecord r) ≡ false
+  name-long h = name-decides ∙ long-name _ (rw (length-firsts 0 (r .«name_len») (r .name)) h)
+
+  pub name-within : r .«name_len» ≤ 128 → recordOk (viewRecord r) ≡ fits username (take (r .«name_len») (r .name))
+  name-within h = name-decides ∙ ap (fits username) (firsts-take 0 (r .«name_len») (r .name) (omega arith))
+
+-- ---- a table
+
+-- each mixed token has few records, by the records and by their column
+each-own : (n : ℕ) (t rs : model.Table)
+    → all (λ c. leb (times c (map (cellOf Mixed) t)) n) (map (cellOf Mixed) rs) ≡ all (λ r. leb (length (own (r .mixed) t)) n) rs
+each-own n t [] = refl
+each-own n t (r ∷ rs) = rw (times-own (r .mixed) t, each-own n t rs)
+
+-- the rules in the order in which they are tested, the first that fails being false
+pub few-decides : (t : model.Table) → tableOk t
+    ≡ (leb (length t) maxRecords && all recordOk t && eachFew maxOwn (map (cellOf Mixed) t) && distinct (map (cellOf KeyId) t))
+unfolding tableOk eachFew
+few-decides t = rw (each-own maxOwn t t)

@@ -1,0 +1,84 @@
+use borrow.Author.Needs.{needs}
+use mathlib.Core.Path.{_≡_, sym, ap, _∙_}
+use Prim.Native.Nat.{_-_}
+use denote.Ref.{now}
+use lib.ListN.{drop}
+use borrow.Author.Tests.{le-leb, lt-leb}
+use Rattle.key_table.specs.Columns.{rows, eachFew}
+use Rattle.key_table.proofs.ColumnLaws.{part-row, rows-end, fewFrom, few-from, few-at}
+use Rattle.key_table.proofs.columns.each_few.Statement.{statement}
+use Rattle.key_table.proofs.columns.each_few.Tie as tie
+
+abbrev Inv-loop : tie.InvT-loop
+Inv-loop c n most i₀ i = eachFew most (rows n c) ≡ fewFrom most (drop i (rows n c))
+
+abbrev μ-loop : tie.MeasureT-loop
+μ-loop c n most i₀ i = n - i
+
+loop-holds : tie.Need-loop-holds Inv-loop μ-loop
+loop-holds c = few-from _ _
+
+mul-a : tie.Need-mul-a Inv-loop μ-loop
+mul-a c = search needs
+
+add-e : tie.Need-add-e Inv-loop μ-loop
+add-e c = search needs
+
+sub-times-in : tie.Need-sub-times-in Inv-loop μ-loop
+sub-times-in c = search needs
+
+part-times-in-start : tie.Need-part-times-in-start Inv-loop μ-loop
+part-times-in-start c = search needs
+
+part-times-in-end : tie.Need-part-times-in-end Inv-loop μ-loop
+part-times-in-end c = search needs
+
+times-in-requires : tie.Need-times-in-requires Inv-loop μ-loop
+times-in-requires c κs = search needs
+
+returns : tie.Need-returns Inv-loop μ-loop
+returns c =
+    let l = c .before .before .before .before in
+    let a = l .before .before .args in
+    let test = c .before .before .before .loop-test .taken in
+    let times = rw (part-row (l .loop .i) (now (a .c))) at (c .before .times-in .ensures) in
+    sym (l .loop .inv ∙ few-at _ _ (now (a .c)) test (a .most) times (lt-leb _ _ (c .if1 .taken)))
+
+add-i : tie.Need-add-i Inv-loop μ-loop
+add-i c = search needs
+
+loop-less : tie.Need-loop-less Inv-loop μ-loop
+loop-less c = search needs
+
+loop-again : tie.Need-loop-again Inv-loop μ-loop
+loop-again c =
+    let l = c .before .before .before .before in
+    let a = l .before .before .args in
+    let test = c .before .before .before .loop-test .taken in
+    let times = rw (part-row (l .loop .i) (now (a .c))) at (c .before .times-in .ensures) in
+    l .loop .inv ∙ few-at _ _ (now (a .c)) test (a .most) times (le-leb _ _ (c .if1 .left))
+
+returns-2 : tie.Need-returns-2 Inv-loop μ-loop
+returns-2 c =
+    let l = c .before in
+    let a = l .before .before .args in
+    sym (l .loop .inv ∙ ap (fewFrom (a .most)) (rows-end _ _ (now (a .c)) (c .loop-test .left)))
+
+pub each-few-spec : {M : Type 1} → statement M
+each-few-spec =
+    tie.close
+    (tie.spec
+    Inv-loop
+    μ-loop
+    loop-holds
+    mul-a
+    add-e
+    sub-times-in
+    part-times-in-start
+    part-times-in-end
+    times-in-requires
+    returns
+    add-i
+    loop-less
+    loop-again
+    returns-2)

@@ -1,0 +1,11 @@
+use mathlib.Core.Path.{refl}
+use Rattle.key_table.specs.Views.{firsts, spareRow}
+use Rattle.key_table.proofs.records.spare.Statement.{statement}
+use Rattle.key_table.proofs.records.spare.Tie as tie
+
+returns : tie.Need-returns
+unfolding firsts spareRow
+returns c = refl
+
+pub spare-spec : {M : Type 1} → statement M
+spare-spec = tie.close (tie.spec returns)

@@ -1,0 +1,20 @@
+use mathlib.Core.Path.{sym}
+use denote.Ref.{now}
+use lib.Seq.{length-take-le}
+use borrow.Author.Needs.{needs}
+use Rattle.key_table.proofs.rules.is_name.Statement.{statement}
+use Rattle.key_table.proofs.rules.is_name.Tie as tie
+
+slice-aggregate-fits : tie.Need-slice-aggregate-fits
+slice-aggregate-fits c =
+    let s = c .before .before in
+    sym (length-take-le (s .args .n) (now (s .args .v)) (s .pre))
+
+fits-requires : tie.Need-fits-requires
+fits-requires c κs = search needs
+
+returns : tie.Need-returns
+returns c = search needs
+
+pub is-name-spec : {M : Type 1} → statement M
+is-name-spec = tie.close (tie.spec slice-aggregate-fits fits-requires returns)

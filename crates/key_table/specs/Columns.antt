@@ -1,0 +1,30 @@
+-- One field of 32 bytes of each record, as one stretch.
+use Prim.Native.Nat.{ℕ, zero, suc, _*_}
+use mathlib.Core.Bool.{Bool}
+use mathlib.Core.List.{List, [], _∷_}
+use lib.ListN.{length, take, drop}
+use lib.Dec.{leb}
+use Rattle.model.specs.Lists.{all, select, eqBytes}
+use Rattle.model.specs.Records as model
+use Rattle.key_table.specs.declared.columns.Cell.{Cell}
+use Rattle.key_table.specs.declared.columns.Cell.the-variants.{KeyId, Mixed}
+
+abbrev pub cellOf : Cell → model.Record → List ℕ
+cellOf KeyId r = r .keyId
+cellOf Mixed r = r .mixed
+
+-- a column's row at a place, and its first n rows
+abbrev pub row : ℕ → List ℕ → List ℕ
+row i c = take 32 (drop (32 * i) c)
+
+unfoldable pub rows : ℕ → List ℕ → List (List ℕ)
+rows zero c = []
+rows (suc n) c = take 32 c ∷ rows n (drop 32 c)
+
+-- how many rows are v
+unfoldable pub times : List ℕ → List (List ℕ) → ℕ
+times v cs = length (select (λ c. eqBytes c v) cs)
+
+-- no row stands there more than n times
+unfoldable pub eachFew : ℕ → List (List ℕ) → Bool
+eachFew n cs = all (λ c. leb (times c cs) n) cs

@@ -1,0 +1,84 @@
+use crate::columns::Cell;
+use crate::columns::all_distinct;
+use crate::columns::column;
+use crate::columns::each_few;
+use crate::records::Record;
+use crate::records::Table;
+use fields::Field;
+use fields::fits;
+ghost use mathlib.Core.Path.{_≡_};
+ghost use Prim.Native.Nat.{_≤_};
+ghost use lib.ListN.{length, take};
+ghost use Rattle.model.specs.Lists.{all};
+ghost use Rattle.model.specs.Tlv.{fits, username};
+ghost use Rattle.model.specs.Records.{recordOk, tableOk};
+ghost use Rattle.key_table.specs.Views.{viewRecord, viewTable};
+
+// "The table has at most 32 records, .. at most 8 with one mixed token".
+pub const MAX_RECORDS: usize = 32;
+
+pub const MAX_OWN: usize = 8;
+
+// Whether the first n bytes are a name.
+fn is_name(v: &[u8], n: usize) -> bool
+    requires { ⌜ n ≤ length (now v) ⌝ }
+    ensures { λ r. ⌜ r ≡ fits username (take n (now (v .entry))) ⌝ }
+{
+    fits(Field::Username, &v[..n])
+}
+
+// The same of an array, whose length is its type's.
+fn is_name_in(v: &[u8; 128], n: usize) -> bool
+    requires { ⌜ n ≤ 128 ⌝ }
+    ensures { λ r. ⌜ r ≡ fits username (take n (now (v .entry))) ⌝ }
+{
+    is_name(v, n)
+}
+
+// Whether a record obeys the rules: the other lengths and the counter's width are those of its types.
+pub fn record_ok(r: Record) -> bool
+    ensures { λ b. ⌜ b ≡ recordOk (viewRecord r) ⌝ }
+{
+    let n = r.name_len;
+    if 128 < n {
+        return false;
+    }
+    let name = r.name;
+    is_name_in(&name, n)
+}
+
+// Whether each record obeys them.
+fn records_ok(t: Table) -> bool
+    requires { ⌜ t .len ≤ 32 ⌝ }
+    ensures { λ r. ⌜ r ≡ all recordOk (viewTable t) ⌝ }
+{
+    let n = t.len;
+    let mut i = 0;
+    while i < n {
+        let r = t.rows[i];
+        if !record_ok(r) {
+            return false;
+        }
+        i += 1;
+    }
+    true
+}
+
+// The record rules: at most 32 records, each in order, at most 8 with one mixed token, no KeyID twice.
+pub fn table_ok(t: Table) -> bool
+    ensures { λ r. ⌜ r ≡ tableOk (viewTable t) ⌝ }
+{
+    let n = t.len;
+    if MAX_RECORDS < n {
+        return false;
+    }
+    if !records_ok(t) {
+        return false;
+    }
+    let owners = column(t, Cell::Mixed);
+    if !each_few(&owners, n, MAX_OWN) {
+        return false;
+    }
+    let keys = column(t, Cell::KeyId);
+    all_distinct(&keys, n)
+}

@@ -1,0 +1,112 @@
+-- Writes over a stretch: one after another, as stores, as a copy, and as TLVs.
+-- Assumes nothing.
+use mathlib.Core.Path.{_≡_, refl, sym, ap, _∙_}
+use mathlib.Core.List.{List, [], _∷_, _++_, append-assoc, append-nil}
+use Prim.Native.Nat.{ℕ, suc, _+_, _≤_, _<_}
+use native.Mathlib.Nat.{add-zero}
+use native.Mathlib.Numerals.{add-one}
+use native.Mathlib.Omega.{arith}
+use lib.ListN.{length, getD, take, drop, set, length-append, length-drop, take-append-drop}
+use lib.Seq.{take-length, paste, paste-suc, take-at, drop-at, length-take-le, drop-drop, sets, sets-eq}
+use Rattle.model.specs.Tlv.{Tlv, tlv, header, bytes}
+use Rattle.model.proofs.Tlvs.{bytes-append}
+use Rattle.tlv.specs.Writing.{splice, Wrote}
+
+-- ---- splice
+
+length-splice : (at : ℕ) (xs d : List ℕ) → at + length xs ≤ length d → length (splice at xs d) ≡ length d
+length-splice at xs d h = simp (length-append, length-drop) (omega (arith, length-take-le at d (omega arith)))
+
+-- a write after a write is one write of both
+splice-splice : (at : ℕ) (xs ys d : List ℕ) → at + (length xs + length ys) ≤ length d
+    → splice (at + length xs) ys (splice at xs d) ≡ splice at (xs ++ ys) d
+splice-splice at xs ys d h =
+    let rest : List ℕ = drop (at + length xs) d in
+    let q : length (take at d) ≡ at = length-take-le at d (omega arith) in
+    let p : length (take at d ++ xs) ≡ at + length xs = simp length-append (omega arith) in
+    let t : take (at + length xs) (splice at xs d) ≡ take at d ++ xs =
+    rw (← append-assoc (take at d) xs rest) (take-at (take at d ++ xs) rest (at + length xs) p) in
+    let u : drop (at + length xs) (splice at xs d) ≡ rest =
+    rw (← append-assoc (take at d) xs rest) (drop-at (take at d ++ xs) rest (at + length xs) p) in
+    let v : drop (at + length xs + length ys) (splice at xs d) ≡ drop (at + length xs + length ys) d =
+    sym (drop-drop (length ys) (at + length xs) (splice at xs d)) ∙ ap (drop (length ys)) u ∙ drop-drop (length ys) (at + length xs) d in
+    let w : at + length xs + length ys ≡ at + length (xs ++ ys) = simp length-append (omega arith) in
+    rw (t, v, w) (simp append-assoc)
+
+-- ---- one write after another
+
+module _ {d d₁ d₂ xs ys : List ℕ} {at m n r₁ r₂ : ℕ} where
+  pub then : Wrote d at xs m d₁ r₁ → Wrote d₁ r₁ ys n d₂ r₂ → Wrote d at (xs ++ ys) (m + n) d₂ r₂
+  then p q =
+      let s : at + length xs ≤ length d = omega (arith, p) in
+      let l : length d₁ ≡ length d = ap length (p .bytes) ∙ length-splice at xs d s in
+      let e : r₁ ≡ at + length xs = omega (arith, p) in
+      record {
+        size = simp length-append (omega (arith, p, q));
+        room = omega (arith, p, q);
+        next = omega (arith, p, q);
+        bytes = q .bytes ∙ rw (e, p .bytes) (splice-splice at xs ys d (omega (arith, p, q)));
+      }
+
+module _ {d d′ xs ys : List ℕ} {at m n r : ℕ} where
+  -- the same write, with its bytes and their number put another way
+  pub same : xs ≡ ys → m ≡ n → Wrote d at xs m d′ r → Wrote d at ys n d′ r
+  same e k p = rw (← e, ← k) p
+
+-- nothing written
+pub wrote-none : (d : List ℕ) (at : ℕ) → at ≤ length d → Wrote d at [] 0 d at
+wrote-none d at h =
+    record { size = refl; room = omega arith; next = omega arith; bytes = rw add-zero (sym (take-append-drop at d)) }
+
+-- what was written at the front, and what is left of the stretch
+pub front : {d xs d′ : List ℕ} {n r : ℕ} → Wrote d 0 xs n d′ r → (r ≡ n) × (d′ ≡ xs ++ drop n d)
+front {d} {xs} {d′} {n} {r} p =
+    let z : 0 + length xs ≡ n = omega (arith, p) in
+    (omega (arith, p), p .bytes ∙ rw z)
+
+-- ---- TLVs
+
+module _ {d d₁ d₂ : List ℕ} {at m n r₁ r₂ : ℕ} (ts us : List Tlv) where
+  -- a run after a run
+  pub then-run : Wrote d at (bytes ts) m d₁ r₁ → Wrote d₁ r₁ (bytes us) n d₂ r₂ → Wrote d at (bytes (ts ++ us)) (m + n) d₂ r₂
+  then-run p q = same (sym (bytes-append ts us)) refl (then p q)
+
+module _ {d d₁ d₂ v : List ℕ} {at n r₁ r₂ : ℕ} (tag : ℕ) where
+  -- a header, and a value of the length that it says
+  pub then-value : Wrote d at (header tag n) 4 d₁ r₁ → Wrote d₁ r₁ v n d₂ r₂ → Wrote d at (bytes (tlv tag v ∷ [])) (4 + n) d₂ r₂
+  unfolding bytes
+  then-value p q =
+      let e : header tag n ++ v ≡ header tag (length v) ++ (v ++ []) = rw (q .size, append-nil) in
+      same e refl (then p q)
+
+-- ---- stores one after the other
+
+abbrev pub stores : List ℕ → ℕ → List ℕ → List ℕ
+stores d i [] = d
+stores d i (v ∷ vs) = stores (set d i v) (i + 1) vs
+
+stores-sets : (vs d : List ℕ) (i : ℕ) → stores d i vs ≡ sets d i vs
+stores-sets [] d i = refl
+stores-sets (v ∷ vs) d i = rw add-one (stores-sets vs (set d i v) (suc i))
+
+pub wrote-stores : (vs d : List ℕ) (at r : ℕ) → at + length vs ≤ length d → r ≡ at + length vs → Wrote d at vs (length vs) (stores d at vs) r
+wrote-stores vs d at r h e =
+    record {
+      size = refl;
+      room = h;
+      next = e;
+      bytes = stores-sets vs d at ∙ sets-eq vs d at h ∙ append-assoc (take at d) vs (drop (at + length vs) d);
+    }
+
+-- ---- a copy
+
+-- a turn
+pub paste-step : (d s : List ℕ) (at i : ℕ) {x : List ℕ} → at + i < length d → i < length s → x ≡ paste d at s i
+    → set x (at + i) (getD s i 0) ≡ paste d at s (i + 1)
+paste-step d s at i h k e = rw (e, add-one) (paste-suc d at s i 0 h k)
+
+-- all of it
+pub wrote-paste : (d s : List ℕ) (at i : ℕ) {d′ : List ℕ} {r : ℕ} → at + length s ≤ length d → r ≡ at + i → i ≡ length s
+    → d′ ≡ paste d at s i → Wrote d at s (length s) d′ r
+wrote-paste d s at i h e k p =
+    record { size = refl; room = h; next = omega arith; bytes = p ∙ rw k (simp (take-length, append-assoc)) }

@@ -1,0 +1,19 @@
+ghost use mathlib.Core.Path.{_≡_};
+ghost use Rattle.model.specs.Lists.{eqBytes};
+
+// Whether two stretches hold the same bytes.
+pub fn same(a: &[u8], b: &[u8]) -> bool
+    ensures { λ r. ⌜ r ≡ eqBytes (now (a .entry)) (now (b .entry)) ⌝ }
+{
+    if a.len() != b.len() {
+        return false;
+    }
+    let mut i = 0;
+    while i < a.len() {
+        if a[i] != b[i] {
+            return false;
+        }
+        i += 1;
+    }
+    true
+}

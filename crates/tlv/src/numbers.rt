@@ -1,0 +1,56 @@
+ghost use mathlib.Core.Path.{_≡_};
+ghost use Prim.Native.Nat.{_+_, _≤_, _<_};
+ghost use lib.ListN.{length};
+ghost use Rattle.model.specs.Tlv.{le};
+ghost use Rattle.tlv.specs.Numbers.{NumberAt};
+ghost use Rattle.tlv.specs.Writing.{Wrote};
+
+// A byte as a place or a length.
+fn wide(x: u8) -> usize
+    ensures { λ r. ⌜ (r ≡ x) × (r < 256) ⌝ }
+{
+    x as usize
+}
+
+// The 16-bit number at a place.
+pub fn get16(s: &[u8], at: usize) -> usize
+    requires { ⌜ at + 2 ≤ length (now s) ⌝ }
+    ensures { λ r. ⌜ NumberAt 2 (now (s .entry)) at r ⌝ }
+{
+    wide(s[at]) + 256 * wide(s[at + 1])
+}
+
+// The 32-bit number at a place.
+pub fn get32(s: &[u8], at: usize) -> usize
+    requires { ⌜ at + 4 ≤ length (now s) ⌝ }
+    ensures { λ r. ⌜ NumberAt 4 (now (s .entry)) at r ⌝ }
+{
+    get16(s, at) + 65536 * get16(s, at + 2)
+}
+
+// The two lowest bytes of a length or a tag, the lowest first: the one place that splits a number.
+fn split(n: usize) -> [u8; 2]
+    ensures { λ r. ⌜ r ≡ le 2 n ⌝ }
+{
+    [(n % 256) as u8, (n / 256 % 256) as u8]
+}
+
+// Writes a number in two bytes.
+pub fn put16(out: &mut [u8], at: usize, n: usize) -> usize
+    requires { ⌜ at + 2 ≤ length (now out) ⌝ }
+    ensures { λ r. ⌜ Wrote (now (out .entry)) at (le 2 n) 2 (now (out .exit)) r ⌝ }
+{
+    let b = split(n);
+    out[at] = b[0];
+    out[at + 1] = b[1];
+    at + 2
+}
+
+// Writes a number in four bytes.
+pub fn put32(out: &mut [u8], at: usize, n: usize) -> usize
+    requires { ⌜ at + 4 ≤ length (now out) ⌝ }
+    ensures { λ r. ⌜ Wrote (now (out .entry)) at (le 4 n) 4 (now (out .exit)) r ⌝ }
+{
+    let mid = put16(out, at, n);
+    put16(out, mid, n / 65536)
+}
