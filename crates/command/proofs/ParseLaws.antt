@@ -11,10 +11,9 @@ use lib.Seq.{take-all}
 use lib.Dec.{leb, eqb, lit<}
 use borrow.Author.Tests.{leb-true, leb-false, le-leb, lt-leb, eqb-true}
 use Rattle.model.specs.Lists.{all, given}
-use Rattle.model.specs.Tlv.{Tlv, tlvs, isRun, Field, keyHandle, tagOf, maxCommand, critical, Kind, getInfo, register, sign, deregister, openSettings, fieldsOf, upTo, listed, childOk, valuesOf, timesOk, childrenOk, children, broken, fieldsIn, fieldIn}
+use Rattle.model.specs.Tlv.{Tlv, tlvs, isRun, Field, keyHandle, tagOf, maxCommand, critical, Kind, getInfo, register, sign, deregister, openSettings, fieldsOf, upTo, listed, childOk, valuesOf, timesOk, childrenOk, children, broken, fieldsIn, fieldIn, fills}
 use Rattle.model.proofs.Basics.{split, clash, and-left, and-right}
 use Rattle.model.proofs.Fields.{unbroken, given-times}
-use Rattle.tlv.specs.Heads.{fills}
 use Rattle.tlv.specs.Spans.{parts, noSpan}
 use Rattle.tlv.specs.declared.reader.Span.{Span}
 use Rattle.tlv.specs.declared.reader.Spans.{Spans}
@@ -119,7 +118,7 @@ module _ (s : List ℕ) where
       rw (v .read, none-given k keyHandle u refl (v .held) (v .child)) (omega arith)
 
   -- at most eight key handles, whichever command it is
-  few-handles : (k : Kind) → broken k s ≡ false → length (fieldsIn keyHandle s) ≤ maxValues
+  pub few-handles : (k : Kind) → broken k s ≡ false → length (fieldsIn keyHandle s) ≤ maxValues
   unfolding fieldsIn
   few-handles getInfo b = no-handles getInfo refl b
   few-handles register b = no-handles register refl b
@@ -140,12 +139,12 @@ placed-at s r g a slot h =
     record { inside = i .inside; value = rw (fields-in s g (slotField slot)) (i .value) }
 
 -- all key handles
-pub handles-placed : (k : Kind) (s : List ℕ) (v : Values) → broken k s ≡ false → ValuesAre s 4 keyHandle v
-    → HandlesPlaced s (record { at = v .at; len = v .times })
+pub handles-placed : (s : List ℕ) (v : Values) → given (children s) ≡ true → length (fieldsIn keyHandle s) ≤ maxValues
+    → ValuesAre s 4 keyHandle v → HandlesPlaced s (record { at = v .at; len = v .times })
 unfolding parts
-handles-placed k s v b a =
-    let are : fieldsIn keyHandle s ≡ valuesOf keyHandle (runFrom s 4) = fields-in s (unbroken-given k s b) keyHandle in
-    let few : length (valuesOf keyHandle (runFrom s 4)) ≤ maxValues = rw are at (few-handles s k b) in
+handles-placed s v g h a =
+    let are : fieldsIn keyHandle s ≡ valuesOf keyHandle (runFrom s 4) = fields-in s g keyHandle in
+    let few : length (valuesOf keyHandle (runFrom s 4)) ≤ maxValues = rw are at h in
     record {
       inside = record { few = omega (arith, a .times-are); each = λ i h. a .inside i h (omega (arith, a .times-are)) };
       values = a .values-are ∙ take-all maxValues _ few ∙ sym are;

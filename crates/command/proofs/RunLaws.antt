@@ -1,19 +1,19 @@
 -- The run of children that follows a place of a command, child by child.
 -- Assumes nothing.
-use mathlib.Core.Path.{_≡_, refl, _∙_}
-use mathlib.Core.Bool.{Bool, true, false}
+use mathlib.Core.Path.{_≡_, refl}
+use mathlib.Core.Bool.{true}
 use mathlib.Core.List.{List, [], _∷_, map}
 use mathlib.Core.Option.{Option, none, some, Option·map, Option·getD}
 use Prim.Native.Nat.{ℕ}
 use lib.ListN.{drop}
 use lib.Dec.{eqb}
 use borrow.Author.Tests.{eq-eqb, ne-eqb}
-use Rattle.model.specs.Lists.{all, given, select}
-use Rattle.model.specs.Tlv.{Tlv, tlv, tlvs, isRun}
+use Rattle.model.specs.Lists.{given, select}
+use Rattle.model.specs.Tlv.{Tlv, tlv, tlvs}
 use Rattle.model.proofs.Basics.{clash}
 use Rattle.tlv.specs.Heads.{headAt, between}
 use Rattle.tlv.specs.declared.reader.Head.the-variants.{Bad, End}
-use Rattle.tlv.proofs.HeadLaws.{IsTlv, run-end, run-bad, run-tlv, all-tlv}
+use Rattle.tlv.proofs.HeadLaws.{IsTlv, run-end, run-bad, run-tlv}
 use Rattle.command.specs.Children.{runFrom}
 
 -- a place is followed by one
@@ -55,11 +55,3 @@ module _ {s : List ℕ} {at tag start end : ℕ} (i : IsTlv s at tag start end) 
 
   pub values-other : (wanted : ℕ) → (tag ≡ wanted → ⊥) → valuesWith wanted (runFrom s at) ≡ valuesWith wanted (runFrom s end)
   values-other wanted h = rw run-child (simp (ne-eqb tag wanted h))
-
--- a test of each child of a run, at a child
-module _ (p : Tlv → Bool) {s : List ℕ} {at tag start end : ℕ} (i : IsTlv s at tag start end) where
-  pub all-passed : true ≡ p (tlv tag (between s start end)) → isRun (all p) (tlvs (drop at s)) ≡ isRun (all p) (tlvs (drop end s))
-  all-passed e = all-tlv p i ∙ rw (← e)
-
-  pub all-failed : false ≡ p (tlv tag (between s start end)) → isRun (all p) (tlvs (drop at s)) ≡ false
-  all-failed e = all-tlv p i ∙ rw (← e)

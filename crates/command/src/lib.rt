@@ -1,4 +1,4 @@
 // The five commands as bytes: which one it is, whether a rule is broken, and where each field's bytes stand.
-pub mod children;
+mod children;
 pub mod kinds;
 pub mod parse;

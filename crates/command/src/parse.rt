@@ -9,14 +9,17 @@ use tlv::reader::Span;
 use tlv::reader::Spans;
 use tlv::reader::is_whole;
 ghost use mathlib.Core.Path.{_≡_};
-ghost use Rattle.model.specs.Tlv.{broken};
-ghost use mathlib.Core.Bool.{false};
+ghost use Prim.Native.Nat.{_≤_};
+ghost use mathlib.Core.Bool.{true};
+ghost use lib.ListN.{length};
+ghost use Rattle.model.specs.Lists.{given};
+ghost use Rattle.model.specs.Tlv.{keyHandle, children, fieldsIn};
 ghost use Rattle.command.specs.Kinds.{kindIs};
 ghost use Rattle.command.specs.Parse.{HandlesPlaced, noFields, Answers};
 
 // Where the key handles stand.
-fn handles_in(s: &[u8], kind: Kind) -> Spans
-    requires { ⌜ broken (kindIs kind) (now s) ≡ false ⌝ }
+fn handles_in(s: &[u8]) -> Spans
+    requires { ⌜ (given (children (now s)) ≡ true) × (length (fieldsIn keyHandle (now s)) ≤ 8) ⌝ }
     ensures { λ r. ⌜ HandlesPlaced (now (s .entry)) r ⌝ }
 {
     let v = values_of(s, 4, Field::KeyHandle);
@@ -77,7 +80,7 @@ pub fn fields_of(s: &[u8], kind: Kind) -> Fields
     if !times_ok(given, kind) {
         return no_fields();
     }
-    let handles = handles_in(s, kind);
+    let handles = handles_in(s);
     Fields {
         broken: false,
         app_id: given.first[kinds::APP_ID],

@@ -13,7 +13,7 @@ use Rattle.model.specs.Lists.{select, eqBytes, among, distinct}
 use Rattle.model.specs.Records as model
 use Rattle.model.specs.Records.{keyIds, hasMixed}
 use Rattle.model.specs.Commands.{apply, add, setCount, isKey, withCount}
-use Rattle.model.proofs.Basics.{split, clash, and-left, and-right, or-left, or-right, eqBytes-eq, eqBytes-not, select-append}
+use Rattle.model.proofs.Basics.{split, clash, and-left, and-right, or-left, or-right, eqBytes-eq, eqBytes-not, select-append, select-same}
 use Rattle.key_table.specs.Views.{viewRecord, viewTable, noRow, noRecord, rowOf, spareRow, TidyRow}
 use Rattle.key_table.specs.Changes.{goes, removal, Left}
 use Rattle.key_table.specs.declared.records.Record.{Record}
@@ -62,10 +62,6 @@ recounted t fits i n h =
 -- a record that stays
 abbrev pub stays : List ℕ → List ℕ → model.Record → Bool
 stays m key r = not (goes m key r)
-
-select-same : {A : Type 0} (p q : A → Bool) → ((x : A) → p x ≡ q x) → (xs : List A) → select p xs ≡ select q xs
-select-same p q f [] = refl
-select-same p q f (x ∷ xs) = rw (f x, select-same p q f xs)
 
 -- both kinds of removal select the records that stay
 pub removal-selects : (m key : List ℕ) (t : model.Table) → apply m (removal key) t ≡ select (stays m key) t

@@ -13,7 +13,7 @@ use Rattle.model.specs.Lists.{put, select, empty, eqBytes, among}
 use Rattle.model.specs.Records as model
 use Rattle.model.specs.Records.{own}
 use Rattle.model.specs.Commands.{chosen}
-use Rattle.model.proofs.Basics.{split, eqBytes-sym}
+use Rattle.model.proofs.Basics.{split, eqBytes-sym, select-both}
 use Rattle.tlv.specs.Heads.{part}
 use Rattle.tlv.specs.Spans.{noSpan, parts}
 use Rattle.tlv.specs.declared.reader.Spans.{Spans}
@@ -137,12 +137,6 @@ module _ {A : Type 0} (p : A → Bool) where
 
 -- ---- the records chosen are those of the definition
 
-select-both : {A : Type 0} (p q : A → Bool) (xs : List A) → select (λ x. p x && q x) xs ≡ select q (select p xs)
-select-both p q [] = refl
-select-both p q (x ∷ xs) =
-    let ih = select-both p q xs in
-    split (p x) (λ e. split (q x) (λ f. cc) (λ f. cc)) (λ e. cc)
-
 pub chosen-is : (m : List ℕ) (hs : List (List ℕ)) (t : model.Table) → select (isChosen m hs) t ≡ chosen hs (own m t)
 unfolding chosen own
-chosen-is m hs t = select-both (model.hasMixed m) (λ r. empty hs || among (r .keyId) hs) t
+chosen-is m hs t = sym (select-both (λ r. empty hs || among (r .keyId) hs) (model.hasMixed m) t)

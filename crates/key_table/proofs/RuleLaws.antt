@@ -26,11 +26,9 @@ module _ {A : Type 0} (p : A → Bool) where
   pub all-done : (xs : List A) (i : ℕ) → length xs ≤ i → all p (drop i xs) ≡ true
   all-done xs i h = rw (drop-of-length-le xs h)
 
-  pub all-fails : {xs ys : List A} {x : A} → xs ≡ x ∷ ys → p x ≡ false → all p xs ≡ false
-  all-fails e h = rw (e, h)
-
-  pub all-more : {xs ys : List A} {x : A} → xs ≡ x ∷ ys → p x ≡ true → all p xs ≡ all p ys
-  all-more e h = rw (e, h)
+  -- at an element, where b is what its test gave
+  pub all-next : {xs ys : List A} {x : A} {b : Bool} → xs ≡ x ∷ ys → b ≡ p x → all p xs ≡ (b && all p ys)
+  all-next e h = rw (e, h)
 
 -- ---- a record
 

@@ -1,24 +1,20 @@
 -- The stored form as it is written: a record field by field, a table record by record, and that there is room for it.
 -- Assumes nothing.
 use mathlib.Core.Path.{_≡_, refl, sym, ap}
-use mathlib.Core.Bool.{Bool, true}
+use mathlib.Core.Bool.{true}
 use mathlib.Core.List.{List, [], _∷_, _++_, append-assoc, append-nil}
-use Prim.Native.Nat.{ℕ, zero, suc, _+_, _≤_, _<_}
+use Prim.Native.Nat.{ℕ, _+_, _≤_, _<_}
 use native.Mathlib.Omega.{arith}
 use lib.ListN.{length, getD, take}
 use lib.Seq.{take-all}
-use lib.Dec.{leb}
-use borrow.Author.Tests.{leb-true}
-use Rattle.model.specs.Lists.{all}
-use Rattle.model.specs.Tlv.{le, Tlv, tlv, bytes, header, fits, username}
+use Rattle.model.specs.Tlv.{le, Tlv, tlv, bytes, header}
 use Rattle.model.specs.Layouts.{fill, write}
 use Rattle.model.specs.Records as model
-use Rattle.model.specs.Records.{recordOk, maxRecords, tableOk, pairTag, encode}
-use Rattle.model.proofs.Basics.{and-left, and-right}
-use Rattle.model.proofs.LayoutLaws.{fits-most}
+use Rattle.model.specs.Records.{tableOk, pairTag, encode}
+use Rattle.model.proofs.Rules.{obeys-rules}
 use Rattle.tlv.specs.Writing.{Wrote}
 use Rattle.tlv.proofs.WriteLaws.{then, then-run, then-value, same, wrote-none}
-use Rattle.key_table.specs.Views.{firsts, viewRecord, viewTable, noRow, noRecord}
+use Rattle.key_table.specs.Views.{viewRecord, viewTable, noRow}
 use Rattle.key_table.specs.declared.records.Record.{Record}
 use Rattle.key_table.specs.declared.records.Table.{Table}
 use Rattle.key_table.proofs.ViewLaws.{firsts-take, length-firsts, length-view, row-at, take-next}
@@ -78,25 +74,12 @@ stored-all t i h p = same (ap encode (take-all i (viewTable t) (rw (length-view 
 
 -- ---- a table that obeys the rules has room
 
-module _ {A : Type 0} (p : A → Bool) (z : A) where
-  all-at : (l : List A) (i : ℕ) → all p l ≡ true → i < length l → p (getD l i z) ≡ true
-  all-at [] i e h = absurd (omega arith)
-  all-at (x ∷ l) zero e h = and-left (p x) _ e
-  all-at (x ∷ l) (suc i) e h = all-at l i (and-right (p x) _ e) (omega arith)
-
 module _ (t : Table) (ok : tableOk (viewTable t) ≡ true) where
   pub few-rows : t .len ≤ 32
-  unfolding tableOk
-  few-rows =
-      let k : leb (length (viewTable t)) maxRecords ≡ true = search (and-left, and-right) in
-      omega (arith, leb-true, length-view t)
+  few-rows = omega (arith, obeys-rules (viewTable t) ok .few, length-view t)
 
   pub short-name : t .len ≤ length (t .rows) → (i : ℕ) → i < t .len → getD (t .rows) i noRow .«name_len» ≤ 128
-  unfolding tableOk recordOk
   short-name fits-in i h =
       let r : Record = getD (t .rows) i noRow in
-      let k : all recordOk (viewTable t) ≡ true = search (and-left, and-right) in
-      let l : recordOk (getD (viewTable t) i noRecord) ≡ true = all-at recordOk noRecord (viewTable t) i k (rw (length-view t) h) in
-      let m : recordOk (viewRecord r) ≡ true = rw (row-at t fits-in i h) at l in
-      let n : fits username (firsts 0 (r .«name_len») (r .name)) ≡ true = search (and-left, and-right) in
-      omega (arith, fits-most username _ n, length-firsts 0 (r .«name_len») (r .name))
+      let m = rw (row-at t fits-in i h) at (obeys-rules (viewTable t) ok .each i (rw (length-view t) h)) in
+      omega (arith, m .name-most, length-firsts 0 (r .«name_len») (r .name))

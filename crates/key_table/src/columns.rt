@@ -48,14 +48,22 @@ pub fn column(t: Table, which: Cell) -> [u8; 1024]
     c
 }
 
-// Whether row i of a column is v.
+// Row i of a column.
+fn row_at(c: &[u8], i: usize) -> &[u8]
+    requires { ⌜ 32 * i + 32 ≤ length (now c) ⌝ }
+    ensures { λ r. ⌜ now r ≡ row i (now (c .entry)) ⌝ }
+{
+    let a = 32 * i;
+    let e = a + 32;
+    &c[a..e]
+}
+
+// Whether it is v.
 pub fn row_is(c: &[u8], i: usize, v: &[u8]) -> bool
     requires { ⌜ 32 * i + 32 ≤ length (now c) ⌝ }
     ensures { λ r. ⌜ r ≡ eqBytes (row i (now (c .entry))) (now (v .entry)) ⌝ }
 {
-    let a = 32 * i;
-    let e = a + 32;
-    same(&c[a..e], v)
+    same(row_at(c, i), v)
 }
 
 // Whether one of the rows from a place up to the nth is v.
@@ -96,9 +104,7 @@ pub fn all_distinct(c: &[u8], n: usize) -> bool
 {
     let mut i = 0;
     while i < n {
-        let a = 32 * i;
-        let e = a + 32;
-        if is_among(c, i + 1, n, &c[a..e]) {
+        if is_among(c, i + 1, n, row_at(c, i)) {
             return false;
         }
         i += 1;
@@ -114,9 +120,7 @@ pub fn each_few(c: &[u8], n: usize, most: usize) -> bool
 {
     let mut i = 0;
     while i < n {
-        let a = 32 * i;
-        let e = a + 32;
-        let k = times_in(c, i, n, &c[a..e]);
+        let k = times_in(c, i, n, row_at(c, i));
         if most < k {
             return false;
         }

@@ -30,9 +30,9 @@ ghost use Rattle.key_table.specs.Views.{viewRecord, viewTable, Tidy};
 ghost use Rattle.key_table.specs.Stored.{storedIn, tested, RowParts, partsRecord, RowIs, TableIs};
 
 // A record, if there is one.
-pub struct Row {
-    pub ok: bool,
-    pub row: Record,
+struct Row {
+    ok: bool,
+    row: Record,
 }
 
 fn no_row() -> Row

@@ -99,6 +99,15 @@ module _ {A : Type 0} where
       split (p x) (λ e. split (q x) (λ f. cc (select-comm p q xs)) (λ f. cc (select-comm p q xs)))
       (λ e. split (q x) (λ f. cc (select-comm p q xs)) (λ f. cc (select-comm p q xs)))
 
+  -- a test that is the same, and two tests as one
+  pub select-same : (p q : A → Bool) → ((x : A) → p x ≡ q x) → (xs : List A) → select p xs ≡ select q xs
+  select-same p q f [] = refl
+  select-same p q f (x ∷ xs) = cc (f x, select-same p q f xs)
+
+  pub select-both : (p q : A → Bool) (xs : List A) → select p (select q xs) ≡ select (λ x. q x && p x) xs
+  select-both p q [] = refl
+  select-both p q (x ∷ xs) = split (q x) (λ e. cc (select-both p q xs)) (λ e. cc (select-both p q xs))
+
   pub select-all : (p : A → Bool) (xs : List A) → all p xs ≡ true → select p xs ≡ xs
   select-all p [] e = refl
   select-all p (x ∷ xs) e =

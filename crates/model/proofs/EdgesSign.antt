@@ -13,14 +13,10 @@ use Rattle.model.specs.Tlv.{le, Tlv, tlv, bytes, challengeHash, keyHandl
 use Rattle.model.specs.Layouts.{fill, write}
 use Rattle.model.specs.Records.{Record, Table, own, keyIds, hasMixed, tableOk}
 use Rattle.model.specs.Commands.{Lent, keep, setCount, Call, mixedOf, judge, response, draft, isKey, withCount, apply, only, displayStatus, chosen, nameRows, nameFields, nameResponse, hasContent, signDraft, signOne, signChosen, decideSign, decide, perform}
-use Rattle.model.proofs.Basics.{split, and-left, and-right, eqBytes-eq, eqBytes-sym, eqBytes-refl, or-left, or-right, both}
+use Rattle.model.proofs.Basics.{split, and-left, and-right, eqBytes-eq, eqBytes-sym, eqBytes-refl, or-left, or-right, both, select-same, select-both}
 use Rattle.model.proofs.Edges.{says, carried, Stands, stands, alone}
 
 -- ---- the choice
-
-select-same : (p q : Record → Bool) → ((x : Record) → p x ≡ q x) → (t : Table) → select p t ≡ select q t
-select-same p q f [] = refl
-select-same p q f (x ∷ t) = cc (f x, select-same p q f t)
 
 -- what is chosen depends only on whether handles are given, and which
 pub chosen-same : (hs gs : List (List ℕ)) (mine : Table) → empty hs ≡ empty gs → ((k : List ℕ) → among k hs ≡ among k gs)
@@ -97,10 +93,6 @@ pub record Signed (c : Call) (t : Table) (r : Record) (n : ℕ) : Type 0 where
         answer = draft (signDraft (c .command) (c .lent) r);
         left = place .before ++ (withCount r n ∷ place .after);
       }
-
-select-both : (p q : Record → Bool) (t : Table) → select p (select q t) ≡ select (λ x. q x && p x) t
-select-both p q [] = refl
-select-both p q (x ∷ t) = split (q x) (λ e. cc (select-both p q t)) (λ e. cc (select-both p q t))
 
 chosen-stands : (m : List ℕ) (hs : List (List ℕ)) (t : Table) (r : Record) (rs : Table) → chosen hs (own m t) ≡ r ∷ rs
     → Stands (isKey m (r .keyId)) r t

@@ -229,9 +229,13 @@ timesOk ts f =
 unfoldable pub childrenOk : List Listed → List Tlv → Bool
 childrenOk fs ts = all (λ c. childOk c (listed fs (c .tag))) ts && all (timesOk ts) fs
 
--- a command's children, after its four header bytes, if "its TLV ends with the lent bytes" and its value is a run
+-- "its TLV ends with the lent bytes"
+abbrev pub fills : List ℕ → Bool
+fills s = eqb (4 + num (take 2 (drop 2 s))) (length s)
+
+-- a command's children, after its four header bytes, if it does and its value is a run
 unfoldable pub children : List ℕ → Option (List Tlv)
-children s = cond (eqb (4 + num (take 2 (drop 2 s))) (length s)) (tlvs (drop 4 s)) none
+children s = cond (fills s) (tlvs (drop 4 s)) none
 
 -- "a rule under TLV bytes is broken"
 unfoldable pub broken : Kind → List ℕ → Bool

@@ -11,10 +11,10 @@ use lib.Seq.{drop-drop, length-take-le}
 use lib.Dec.{leb, eqb, eqb·suc-zero}
 use borrow.Author.Tests.{leb-true, leb-false, eqb-true, eqb-false, le-leb, lt-leb, eq-eqb, ne-eqb}
 use Rattle.model.specs.Lists.{all}
-use Rattle.model.specs.Tlv.{num, Tlv, tlv, tlvs, tlvsPast, isRun, composite, wellFormed}
+use Rattle.model.specs.Tlv.{num, Tlv, tlv, tlvs, tlvsPast, isRun, composite, wellFormed, fills}
 use Rattle.model.proofs.Basics.{split}
 use Rattle.tlv.specs.Numbers.{numAt}
-use Rattle.tlv.specs.Heads.{headAt, between, part, fills}
+use Rattle.tlv.specs.Heads.{headAt, between, part}
 use Rattle.tlv.specs.Spans.{Inside}
 use Rattle.tlv.specs.declared.reader.Span.{Span}
 use Rattle.tlv.specs.declared.reader.Head.the-variants.{Tlv as Found, Bad, End}
@@ -143,7 +143,7 @@ run-tlv {s} {at} {tag} {start} {end} i =
 -- ---- a test of each TLV of a run
 
 module _ (p : Tlv → Bool) where
-  pub all-first : (c : Tlv) (o : Option (List Tlv)) → isRun (all p) (Option·map (λ ts. c ∷ ts) o) ≡ (p c && isRun (all p) o)
+  all-first : (c : Tlv) (o : Option (List Tlv)) → isRun (all p) (Option·map (λ ts. c ∷ ts) o) ≡ (p c && isRun (all p) o)
   all-first c none = sym (and-false (p c))
   all-first c (some ts) = refl
 
@@ -153,9 +153,10 @@ module _ (p : Tlv → Bool) where
   pub all-bad : (s : List ℕ) (at : ℕ) → headAt s at ≡ Bad → isRun (all p) (tlvs (drop at s)) ≡ false
   all-bad s at e = rw (run-bad s at e)
 
-  pub all-tlv : {s : List ℕ} {at tag start end : ℕ} → IsTlv s at tag start end
-      → isRun (all p) (tlvs (drop at s)) ≡ (p (tlv tag (between s start end)) && isRun (all p) (tlvs (drop end s)))
-  all-tlv {s} {end = end} i = rw (run-tlv i) (all-first _ (tlvs (drop end s)))
+  -- at a TLV, where b is what its test gave
+  pub all-tlv : {s : List ℕ} {at tag start end : ℕ} {b : Bool} → IsTlv s at tag start end → b ≡ p (tlv tag (between s start end))
+      → isRun (all p) (tlvs (drop at s)) ≡ (b && isRun (all p) (tlvs (drop end s)))
+  all-tlv {s} {end = end} i e = rw (run-tlv i, e) (all-first _ (tlvs (drop end s)))
 
 -- ---- a part of a stretch
 
@@ -196,16 +197,14 @@ well-run (suc n) s h =
 -- a turn of the walk at a TLV
 module _ {s : List ℕ} {at tag start end : ℕ} (levels : ℕ) (i : IsTlv s at tag start end)
     (so-far : wellFormed levels s ≡ isRun (all (inner levels)) (tlvs (drop at s))) where
-  step-in : tag / 4096 % 2 ≡ 1
-      → wellFormed levels s ≡ (wellFormed (levels - 1) (between s start end) && isRun (all (inner levels)) (tlvs (drop end s)))
-  step-in h = so-far ∙ all-tlv (inner levels) i ∙ simp (eq-eqb _ _ h)
-
-  pub step-good : tag / 4096 % 2 ≡ 1 → true ≡ wellFormed (levels - 1) (between s start end)
-      → wellFormed levels s ≡ isRun (all (inner levels)) (tlvs (drop end s))
-  step-good h e = step-in h ∙ rw (← e)
-
-  pub step-bad : tag / 4096 % 2 ≡ 1 → false ≡ wellFormed (levels - 1) (between s start end) → wellFormed levels s ≡ false
-  step-bad h e = step-in h ∙ rw (← e)
+  -- a composite one, where b is what the walk of its value gave
+  pub step-in : {b : Bool} → tag / 4096 % 2 ≡ 1 → b ≡ wellFormed (levels - 1) (between s start end)
+      → wellFormed levels s ≡ (b && isRun (all (inner levels)) (tlvs (drop end s)))
+  step-in h e =
+      let k : inner levels (tlv tag (between s start end)) ≡ wellFormed (levels - 1) (between s start end) = simp (eq-eqb _ _ h) in
+      so-far ∙ all-tlv (inner levels) i (e ∙ sym k)
 
   pub step-over : (tag / 4096 % 2 ≡ 1 → ⊥) → wellFormed levels s ≡ isRun (all (inner levels)) (tlvs (drop end s))
-  step-over h = so-far ∙ all-tlv (inner levels) i ∙ simp (ne-eqb _ _ h)
+  step-over h =
+      let k : true ≡ inner levels (tlv tag (between s start end)) = simp (ne-eqb _ _ h) in
+      so-far ∙ all-tlv (inner levels) i k

@@ -1,10 +1,9 @@
 -- Headers at a place.
 use Prim.Native.Nat.{ℕ, _+_, _-_}
-use mathlib.Core.Bool.{Bool, cond}
+use mathlib.Core.Bool.{cond}
 use mathlib.Core.List.{List}
 use lib.ListN.{length, take, drop}
-use lib.Dec.{leb, eqb}
-use Rattle.model.specs.Tlv.{num}
+use lib.Dec.{leb}
 use Rattle.tlv.specs.Numbers.{numAt}
 use Rattle.tlv.specs.declared.reader.Span.{Span}
 use Rattle.tlv.specs.declared.reader.Head.{Head}
@@ -22,7 +21,3 @@ between s start end = take (end - start) (drop start s)
 
 abbrev pub part : List ℕ → Span → List ℕ
 part s p = between s (p .start) (p .end)
-
--- "its TLV ends with the lent bytes"
-abbrev pub fills : List ℕ → Bool
-fills s = eqb (4 + num (take 2 (drop 2 s))) (length s)

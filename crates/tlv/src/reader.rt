@@ -1,7 +1,7 @@
 use crate::numbers::get16;
 ghost use mathlib.Core.Path.{_≡_};
-ghost use Rattle.model.specs.Tlv.{wellFormed};
-ghost use Rattle.tlv.specs.Heads.{headAt, part, fills};
+ghost use Rattle.model.specs.Tlv.{wellFormed, fills};
+ghost use Rattle.tlv.specs.Heads.{headAt, part};
 ghost use Rattle.tlv.specs.Spans.{Inside};
 
 // A part of a stretch, from a place up to another.

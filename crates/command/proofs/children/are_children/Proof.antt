@@ -7,10 +7,9 @@ use lib.ListN.{length, drop}
 use denote.Ref.{now}
 use Rattle.model.specs.Lists.{all}
 use Rattle.model.specs.Tlv.{tlvs, isRun}
-use Rattle.tlv.proofs.HeadLaws.{IsTlv, tlv-is, all-end, all-bad}
+use Rattle.tlv.proofs.HeadLaws.{IsTlv, tlv-is, all-end, all-bad, all-tlv}
 use Rattle.command.specs.Kinds.{kindIs}
 use Rattle.command.specs.Children.{childPasses}
-use Rattle.command.proofs.RunLaws.{all-passed, all-failed}
 use Rattle.command.proofs.children.are_children.Statement.{statement}
 use Rattle.command.proofs.children.are_children.Tie as tie
 
@@ -69,7 +68,7 @@ returns-3 c =
     let d = c .before .before .before in
     sym
     (d .before .before .before .before .loop .inv .1
-    ∙ all-failed _ (found d) (sym (not-true _ (c .if1 .taken)) ∙ c .before .is-child .ensures))
+    ∙ all-tlv _ (found d) (sym (not-true _ (c .if1 .taken)) ∙ c .before .is-child .ensures))
 
 loop-less : tie.Need-loop-less Inv-loop μ-loop
 loop-less c = omega (arith, found (c .before .before .before))
@@ -79,7 +78,7 @@ loop-again c =
     let d = c .before .before .before in (
       omega (arith, found d),
       d .before .before .before .before .loop .inv .1
-          ∙ all-passed _ (found d) (sym (not-false _ (c .if1 .left)) ∙ c .before .is-child .ensures),
+          ∙ all-tlv _ (found d) (sym (not-false _ (c .if1 .left)) ∙ c .before .is-child .ensures),
     )
 
 pub are-children-spec : {M : Type 1} → statement M

@@ -5,11 +5,10 @@ use Prim.Native.Nat.{_≤_}
 use lib.ListN.{length, drop}
 use borrow.Author.Tests.{not-true, not-false}
 use Rattle.model.specs.Lists.{all}
-use Rattle.model.specs.Tlv.{tlvs, isRun, broken}
-use Rattle.tlv.specs.Heads.{fills}
+use Rattle.model.specs.Tlv.{tlvs, isRun, broken, fills}
 use Rattle.command.specs.Kinds.{kindIs}
 use Rattle.command.specs.Children.{childPasses}
-use Rattle.command.proofs.ParseLaws.{rest-part, broken-long, broken-cut, broken-child, broken-times, whole-place, passed-run, answers-broken, answers-picked}
+use Rattle.command.proofs.ParseLaws.{rest-part, broken-long, broken-cut, broken-child, broken-times, whole-place, passed-run, answers-broken, answers-picked, unbroken-given, few-handles}
 use borrow.Author.Needs.{needs}
 use Rattle.command.proofs.parse.fields_of.Statement.{statement}
 use Rattle.command.proofs.parse.fields_of.Tie as tie
@@ -96,7 +95,7 @@ returns-4 : tie.Need-returns-4
 returns-4 c = answers-broken (told (c .before .before) ∙ c .before .if4 .taken) (c .no-fields4 .ensures)
 
 handles-in-requires : tie.Need-handles-in-requires
-handles-in-requires c κs = sound c
+handles-in-requires c κs = let b = sound c in (unbroken-given _ _ b, few-handles _ _ b)
 
 element-copy-out-t14 : tie.Need-element-copy-out-t14
 element-copy-out-t14 c = search needs

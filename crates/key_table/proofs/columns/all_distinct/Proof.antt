@@ -5,7 +5,7 @@ use denote.Ref.{now}
 use lib.ListN.{drop}
 use Rattle.model.specs.Lists.{distinct}
 use Rattle.key_table.specs.Columns.{rows}
-use Rattle.key_table.proofs.ColumnLaws.{part-row, rows-end, distinct-at}
+use Rattle.key_table.proofs.ColumnLaws.{rows-end, distinct-at}
 use Rattle.key_table.proofs.columns.all_distinct.Statement.{statement}
 use Rattle.key_table.proofs.columns.all_distinct.Tie as tie
 
@@ -18,23 +18,11 @@ abbrev μ-loop : tie.MeasureT-loop
 loop-holds : tie.Need-loop-holds Inv-loop μ-loop
 loop-holds c = refl
 
-mul-a : tie.Need-mul-a Inv-loop μ-loop
-mul-a c = search needs
-
-add-e : tie.Need-add-e Inv-loop μ-loop
-add-e c = search needs
-
 add-is-among : tie.Need-add-is-among Inv-loop μ-loop
 add-is-among c = search needs
 
-sub-is-among : tie.Need-sub-is-among Inv-loop μ-loop
-sub-is-among c = search needs
-
-part-is-among-start : tie.Need-part-is-among-start Inv-loop μ-loop
-part-is-among-start c = search needs
-
-part-is-among-end : tie.Need-part-is-among-end Inv-loop μ-loop
-part-is-among-end c = search needs
+row-at-requires : tie.Need-row-at-requires Inv-loop μ-loop
+row-at-requires c κs = search needs
 
 is-among-requires : tie.Need-is-among-requires Inv-loop μ-loop
 is-among-requires c κs = search needs
@@ -44,7 +32,7 @@ returns c =
     let l = c .before .before .before .before in
     let s = now (l .before .before .args .c) in
     let test = c .before .before .before .loop-test .taken in
-    let later = rw (part-row (l .loop .i) s) at (c .before .is-among .ensures) in
+    let later = rw (c .before .before .row-at .ensures) at (c .before .is-among .ensures) in
     sym (l .loop .inv ∙ distinct-at _ _ s test (sym (c .if1 .taken) ∙ later))
 
 add-i : tie.Need-add-i Inv-loop μ-loop
@@ -58,7 +46,7 @@ loop-again c =
     let l = c .before .before .before .before in
     let s = now (l .before .before .args .c) in
     let test = c .before .before .before .loop-test .taken in
-    let later = rw (part-row (l .loop .i) s) at (c .before .is-among .ensures) in
+    let later = rw (c .before .before .row-at .ensures) at (c .before .is-among .ensures) in
     l .loop .inv ∙ distinct-at _ _ s test (sym (c .if1 .left) ∙ later)
 
 returns-2 : tie.Need-returns-2 Inv-loop μ-loop
@@ -73,12 +61,8 @@ all-distinct-spec =
     Inv-loop
     μ-loop
     loop-holds
-    mul-a
-    add-e
     add-is-among
-    sub-is-among
-    part-is-among-start
-    part-is-among-end
+    row-at-requires
     is-among-requires
     returns
     add-i

@@ -5,7 +5,7 @@ use denote.Ref.{now}
 use lib.ListN.{drop}
 use borrow.Author.Tests.{le-leb, lt-leb}
 use Rattle.key_table.specs.Columns.{rows, eachFew}
-use Rattle.key_table.proofs.ColumnLaws.{part-row, rows-end, fewFrom, few-from, few-at}
+use Rattle.key_table.proofs.ColumnLaws.{rows-end, fewFrom, few-from, few-at}
 use Rattle.key_table.proofs.columns.each_few.Statement.{statement}
 use Rattle.key_table.proofs.columns.each_few.Tie as tie
 
@@ -18,20 +18,8 @@ abbrev μ-loop : tie.MeasureT-loop
 loop-holds : tie.Need-loop-holds Inv-loop μ-loop
 loop-holds c = few-from _ _
 
-mul-a : tie.Need-mul-a Inv-loop μ-loop
-mul-a c = search needs
-
-add-e : tie.Need-add-e Inv-loop μ-loop
-add-e c = search needs
-
-sub-times-in : tie.Need-sub-times-in Inv-loop μ-loop
-sub-times-in c = search needs
-
-part-times-in-start : tie.Need-part-times-in-start Inv-loop μ-loop
-part-times-in-start c = search needs
-
-part-times-in-end : tie.Need-part-times-in-end Inv-loop μ-loop
-part-times-in-end c = search needs
+row-at-requires : tie.Need-row-at-requires Inv-loop μ-loop
+row-at-requires c κs = search needs
 
 times-in-requires : tie.Need-times-in-requires Inv-loop μ-loop
 times-in-requires c κs = search needs
@@ -41,7 +29,7 @@ returns c =
     let l = c .before .before .before .before in
     let a = l .before .before .args in
     let test = c .before .before .before .loop-test .taken in
-    let times = rw (part-row (l .loop .i) (now (a .c))) at (c .before .times-in .ensures) in
+    let times = rw (c .before .before .row-at .ensures) at (c .before .times-in .ensures) in
     sym (l .loop .inv ∙ few-at _ _ (now (a .c)) test (a .most) times (lt-leb _ _ (c .if1 .taken)))
 
 add-i : tie.Need-add-i Inv-loop μ-loop
@@ -55,7 +43,7 @@ loop-again c =
     let l = c .before .before .before .before in
     let a = l .before .before .args in
     let test = c .before .before .before .loop-test .taken in
-    let times = rw (part-row (l .loop .i) (now (a .c))) at (c .before .times-in .ensures) in
+    let times = rw (c .before .before .row-at .ensures) at (c .before .times-in .ensures) in
     l .loop .inv ∙ few-at _ _ (now (a .c)) test (a .most) times (le-leb _ _ (c .if1 .left))
 
 returns-2 : tie.Need-returns-2 Inv-loop μ-loop
@@ -71,11 +59,7 @@ each-few-spec =
     Inv-loop
     μ-loop
     loop-holds
-    mul-a
-    add-e
-    sub-times-in
-    part-times-in-start
-    part-times-in-end
+    row-at-requires
     times-in-requires
     returns
     add-i

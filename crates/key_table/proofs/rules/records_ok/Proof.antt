@@ -8,7 +8,7 @@ use Rattle.model.specs.Lists.{all}
 use Rattle.model.specs.Records.{recordOk}
 use Rattle.key_table.specs.Views.{viewTable}
 use Rattle.key_table.proofs.ViewLaws.{length-view, view-at}
-use Rattle.key_table.proofs.RuleLaws.{all-done, all-fails, all-more}
+use Rattle.key_table.proofs.RuleLaws.{all-done, all-next}
 use Rattle.key_table.proofs.rules.records_ok.Statement.{statement}
 use Rattle.key_table.proofs.rules.records_ok.Tie as tie
 
@@ -40,8 +40,8 @@ returns : tie.Need-returns Inv-loop μ-loop
 returns c =
     let s = c .before .before .before .before .before in
     let l = c .before .before .before .before .loop in
-    sym (l .inv .2 ∙ all-fails _ (view-at (s .args .t1) (fits s) (l .i) (omega arith))
-    (sym (c .before .record-ok .ensures) ∙ not-true _ (c .if1 .taken)))
+    sym (l .inv .2 ∙ all-next _ (view-at (s .args .t1) (fits s) (l .i) (omega arith))
+    (sym (not-true _ (c .if1 .taken)) ∙ c .before .record-ok .ensures))
 
 add-i : tie.Need-add-i Inv-loop μ-loop
 add-i c = search needs
@@ -55,8 +55,8 @@ loop-again c =
     let l = c .before .before .before .before .loop in (
       search needs,
       search needs,
-      l .inv .2 ∙ all-more _ (view-at (s .args .t1) (fits s) (l .i) (omega arith))
-          (sym (c .before .record-ok .ensures) ∙ not-false _ (c .if1 .left)),
+      l .inv .2 ∙ all-next _ (view-at (s .args .t1) (fits s) (l .i) (omega arith))
+          (sym (not-false _ (c .if1 .left)) ∙ c .before .record-ok .ensures),
     )
 
 returns-2 : tie.Need-returns-2 Inv-loop μ-loop

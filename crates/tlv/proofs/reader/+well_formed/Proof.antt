@@ -8,7 +8,7 @@ use Prim.Native.Nat.{ℕ, _-_, _<_, _≤_}
 use lib.ListN.{length, drop}
 use Rattle.model.specs.Lists.{all}
 use Rattle.model.specs.Tlv.{tlvs, isRun, wellFormed}
-use Rattle.tlv.proofs.HeadLaws.{IsTlv, tlv-is, all-end, all-bad, inner, well-none, well-run, step-good, step-bad, step-over}
+use Rattle.tlv.proofs.HeadLaws.{IsTlv, tlv-is, all-end, all-bad, inner, well-none, well-run, step-in, step-over}
 use borrow.Fn.Kinds.{In}
 use borrow.Fn.PlainCycle.{Measures, is, falls, and}
 use Rattle.tlv.proofs.reader.well_formed.Reads as well-formed
@@ -96,7 +96,7 @@ well-formed-returns-4 : (t : ℕ) → well-formed-lts.Need-returns-4 (Cs t) (wel
 well-formed-returns-4 t c =
     let d = c .before .before .before in
     sym
-    (step-bad _ (found t (d .before)) (d .before .before .before .before .before .loop .inv .1) (d .if2 .taken)
+    (step-in _ (found t (d .before)) (d .before .before .before .before .before .loop .inv .1) (d .if2 .taken)
     (sym (not-true _ (c .if3 .taken)) ∙ c .before .well-formed .ensures))
 
 well-formed-loop-less : (t : ℕ) → well-formed-lts.Need-loop-less (Cs t) (well-formed-at t) well-formed.Post well-formed-Inv-loop well-formed-μ-loop
@@ -107,7 +107,7 @@ well-formed-loop-again t c =
     let d = c .before .before .before in
     let i = found t (d .before) in (
       omega (arith, i),
-      step-good _ i (d .before .before .before .before .before .loop .inv .1) (d .if2 .taken)
+      step-in _ i (d .before .before .before .before .before .loop .inv .1) (d .if2 .taken)
           (sym (not-false _ (c .if3 .left)) ∙ c .before .well-formed .ensures),
     )
 
