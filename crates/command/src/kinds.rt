@@ -30,11 +30,11 @@ pub fn kind_of(s: &[u8]) -> Named
     }
     let tag = get16(s, 0);
     match tag {
-        0x3401 => Named::Command(Kind::GetInfo),
-        0x3402 => Named::Command(Kind::Register),
-        0x3403 => Named::Command(Kind::Sign),
-        0x3404 => Named::Command(Kind::Deregister),
-        0x3406 => Named::Command(Kind::OpenSettings),
+        tags::GETINFO_CMD => Named::Command(Kind::GetInfo),
+        tags::REGISTER_CMD => Named::Command(Kind::Register),
+        tags::SIGN_CMD => Named::Command(Kind::Sign),
+        tags::DEREGISTER_CMD => Named::Command(Kind::Deregister),
+        tags::OPEN_SETTINGS_CMD => Named::Command(Kind::OpenSettings),
         _ => Named::Unknown,
     }
 }

@@ -5,6 +5,7 @@ use crate::children::values_of;
 use crate::kinds;
 use crate::kinds::Kind;
 use fields::Field;
+use fields::MAX_COMMAND;
 use tlv::reader::Span;
 use tlv::reader::Spans;
 use tlv::reader::is_whole;
@@ -59,9 +60,6 @@ fn no_fields() -> Fields
         },
     }
 }
-
-// "A command is at most 8,192 bytes".
-const MAX_COMMAND: usize = 8192;
 
 // Reads a command of this kind. Its child run, which starts after the four header bytes, is passed on as a part of it.
 pub fn fields_of(s: &[u8], kind: Kind) -> Fields

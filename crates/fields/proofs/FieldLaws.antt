@@ -20,10 +20,10 @@ use Rattle.tlv.specs.declared.reader.Span.{Span}
 use Rattle.tlv.specs.declared.reader.Head.{Head}
 use Rattle.tlv.specs.declared.reader.Head.the-variants.{Tlv as Found, Bad, End}
 use Rattle.tlv.proofs.HeadLaws.{IsTlv, tlv-is, run-end, run-bad, run-tlv, length-part}
-use Rattle.fields.specs.Fields.{named, allows, allowedFor, RuleIs, fieldIn, fieldAt}
+use Rattle.fields.specs.Fields.{named, allows, allowedFor, ruleWith, RuleIs, fieldIn, fieldAt}
 use Rattle.fields.specs.declared.Rule.{Rule}
 use Rattle.fields.specs.declared.Field.{Field}
-use Rattle.fields.specs.declared.Field.the-variants.{Index, AppId, ChallengeHash, Username, AttestationType, AccessToken, KeyHandle, KeyId, KeyIdOrNone, UserVerifyToken, TransactionContent, MixedToken, Counter}
+use Rattle.fields.specs.declared.Field.the-variants.{Index, AppId, ChallengeHash, Username, AttestationType, AccessToken, KeyHandle, KeyId, KeyIdOrNone, UserVerifyToken, TransactionContent, MixedToken, Counter, Aaid, Metadata, PublicKey, Nonce, ContentHash}
 use Rattle.fields.specs.declared.Found.the-variants.{At, Missing}
 
 allowed-as : (f : Field) (v : List ℕ) → ruleOf (named f) .allowed v ≡ allows (allowedFor f) v
@@ -40,8 +40,18 @@ allowed-as UserVerifyToken v = refl
 allowed-as TransactionContent v = refl
 allowed-as MixedToken v = refl
 allowed-as Counter v = refl
+allowed-as Aaid v = refl
+allowed-as Metadata v = refl
+allowed-as PublicKey v = refl
+allowed-as Nonce v = refl
+allowed-as ContentHash v = refl
 
 -- ---- a value against a rule of the table
+
+-- the rule of a field by its name
+pub rule-is : (f : Field) {g : Field} {r : Rule} → g ≡ f
+    → r ≡ ruleWith (tagOf (named f)) (ruleOf (named f) .least) (ruleOf (named f) .most) (allowedFor f) → RuleIs g r
+rule-is f e p = rw (e, p) (record { tag-is = refl; least-is = refl; most-is = refl; allowed-is = refl })
 
 module _ (f : Field) (v : List ℕ) (r : Rule) (i : RuleIs f r) where
   pub fits-short : length v < r .least → fits (named f) v ≡ false

@@ -16,7 +16,7 @@ use Rattle.fields.specs.declared.Allowed.{Allowed}
 use Rattle.fields.specs.declared.Allowed.the-variants.{Any, Zero, EmptyOrKeyId}
 use Rattle.fields.specs.declared.Rule.{Rule}
 use Rattle.fields.specs.declared.Field.{Field}
-use Rattle.fields.specs.declared.Field.the-variants.{Index, AppId, ChallengeHash, Username, AttestationType, AccessToken, KeyHandle, KeyId, KeyIdOrNone, UserVerifyToken, TransactionContent, MixedToken, Counter}
+use Rattle.fields.specs.declared.Field.the-variants.{Index, AppId, ChallengeHash, Username, AttestationType, AccessToken, KeyHandle, KeyId, KeyIdOrNone, UserVerifyToken, TransactionContent, MixedToken, Counter, Aaid, Metadata, PublicKey, Nonce, ContentHash}
 use Rattle.fields.specs.declared.Found.{Found}
 use Rattle.fields.specs.declared.Found.the-variants.{At, Missing}
 
@@ -34,6 +34,11 @@ named UserVerifyToken = model.userVerifyToken
 named TransactionContent = model.transactionContent
 named MixedToken = model.mixedToken
 named Counter = model.counter
+named Aaid = model.aaid
+named Metadata = model.metadata
+named PublicKey = model.publicKey
+named Nonce = model.nonce
+named ContentHash = model.contentHash true
 
 -- what else is asked of a value
 abbrev pub allows : Allowed → List ℕ → Bool
@@ -55,6 +60,11 @@ allowedFor UserVerifyToken = Any
 allowedFor TransactionContent = Any
 allowedFor MixedToken = Any
 allowedFor Counter = Any
+allowedFor Aaid = Any
+allowedFor Metadata = Any
+allowedFor PublicKey = Any
+allowedFor Nonce = Any
+allowedFor ContentHash = Any
 
 abbrev pub ruleWith : ℕ → ℕ → ℕ → Allowed → Rule
 ruleWith t m n a = record { tag = t; least = m; most = n; allowed = a }

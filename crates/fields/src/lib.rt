@@ -1,4 +1,4 @@
-// The fields of commands and records: each one's tag, lengths and what else is asked of its value, in one table.
+// The fields of commands and records and what is lent: each one's tag, lengths and what else is asked of its value, in one table.
 pub mod tags;
 
 use tlv::bytes::same;
@@ -10,6 +10,10 @@ ghost use Rattle.model.specs.Tlv.{fits};
 ghost use Rattle.fields.specs.Fields.{named, allows, ruleWith, RuleIs, fieldAt};
 ghost use Rattle.fields.specs.declared.Allowed.the-variants.{Any};
 
+// "A command is at most 8,192 bytes".
+pub const MAX_COMMAND: usize = 8192;
+
+// A field at a place where document 01 gives it a rule.
 pub enum Field {
     Index,
     AppId,
@@ -24,6 +28,11 @@ pub enum Field {
     TransactionContent,
     MixedToken,
     Counter,
+    Aaid,
+    Metadata,
+    PublicKey,
+    Nonce,
+    ContentHash,
 }
 
 // What else is asked of a value than its length.
@@ -76,10 +85,15 @@ pub fn rule_of(f: Field) -> Rule
             most: 32,
             allowed: Allowed::EmptyOrKeyId,
         },
-        Field::UserVerifyToken => sized(tags::USERVERIFY_TOKEN, 0, 8192),
-        Field::TransactionContent => sized(tags::TRANSACTION_CONTENT, 0, 8192),
+        Field::UserVerifyToken => sized(tags::USERVERIFY_TOKEN, 0, MAX_COMMAND),
+        Field::TransactionContent => sized(tags::TRANSACTION_CONTENT, 0, MAX_COMMAND),
         Field::MixedToken => sized(tags::KEYHANDLE_ACCESS_TOKEN, 32, 32),
         Field::Counter => sized(tags::COUNTERS, 4, 4),
+        Field::Aaid => sized(tags::AAID, 9, 9),
+        Field::Metadata => sized(tags::METADATA, 15, 15),
+        Field::PublicKey => sized(tags::PUB_KEY, 1, 512),
+        Field::Nonce => sized(tags::NONCE, 8, 32),
+        Field::ContentHash => sized(tags::TRANSACTION_CONTENT_HASH, 32, 32),
     }
 }
 

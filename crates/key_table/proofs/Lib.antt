@@ -1,4 +1,4 @@
--- The laws of tables by value: their view, their columns and rules, lookups, changes, and the stored form both ways.
+-- The laws of tables by value: their view, their columns and rules, lookups, changes, the stored form both ways, and the pairs for the choice.
 pub mod ViewLaws
 pub mod ColumnLaws
 pub mod LookupLaws
@@ -7,3 +7,4 @@ pub mod TidyLaws
 pub mod ChangeLaws
 pub mod StoreLaws
 pub mod LoadLaws
+pub mod PairLaws

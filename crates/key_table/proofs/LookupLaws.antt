@@ -1,24 +1,27 @@
 -- Which rows are chosen: the handles given, the places of the rows that pass, and the records at these places.
 -- Assumes nothing.
 use mathlib.Core.Path.{_≡_, refl, sym, ap, _∙_}
-use mathlib.Core.Bool.{Bool, true, false, _&&_, _||_}
+use mathlib.Core.Bool.{Bool, true, false, not, _&&_, _||_}
 use mathlib.Core.List.{List, [], _∷_, _++_, map, append-assoc}
-use Prim.Native.Nat.{ℕ, zero, suc, _+_, _≤_, _<_}
+use Prim.Native.Nat.{ℕ, zero, suc, _+_, _-_, _≤_, _<_}
 use native.Mathlib.Nat.{add-zero, pos-of-ne-zero}
 use native.Mathlib.Numerals.{add-one}
 use native.Mathlib.Omega.{arith}
 use lib.ListN.{length, getD, take, drop, set, length-map, drop-of-length-le, List·getD-map}
-use lib.Seq.{drop-cons, drop-drop, length-take-le, getD-take, getD-drop, take-suc-set}
+use lib.Seq.{drop-cons, drop-drop, take-length, length-take-le, getD-take, getD-drop, take-suc-set}
+use lib.Dec.{eqb}
 use Rattle.model.specs.Lists.{put, select, empty, eqBytes, among}
 use Rattle.model.specs.Records as model
-use Rattle.model.specs.Records.{own}
+use Rattle.model.specs.Records.{own, keyIds}
 use Rattle.model.specs.Commands.{chosen}
 use Rattle.model.proofs.Basics.{split, eqBytes-sym, select-both}
 use Rattle.tlv.specs.Heads.{part}
-use Rattle.tlv.specs.Spans.{noSpan, parts}
+use Rattle.tlv.specs.Spans.{span, noSpan, parts, AllInside}
 use Rattle.tlv.specs.declared.reader.Spans.{Spans}
+use Rattle.tlv.proofs.HeadLaws.{empty-size}
 use Rattle.key_table.specs.Columns.{cellOf, rows, row, times}
-use Rattle.key_table.specs.Lookups.{isChosen, places, chosenIn}
+use Rattle.key_table.specs.Lookups.{RowsAre, isChosen, places, chosenIn}
+use Rattle.key_table.specs.declared.lookups.Rows.{Rows}
 use Rattle.key_table.specs.declared.columns.Cell.the-variants.{KeyId, Mixed}
 use Rattle.key_table.proofs.ColumnLaws.{rows-at, rows-end}
 
@@ -140,3 +143,40 @@ module _ {A : Type 0} (p : A → Bool) where
 pub chosen-is : (m : List ℕ) (hs : List (List ℕ)) (t : model.Table) → select (isChosen m hs) t ≡ chosen hs (own m t)
 unfolding chosen own
 chosen-is m hs t = sym (select-both (λ r. empty hs || among (r .keyId) hs) (model.hasMixed m) t)
+
+-- ---- a KeyID looked up as the only handle, a part of itself
+
+abbrev pub onlyHandle : List ℕ → Spans
+onlyHandle k =
+    let p = span 0 (length k) in
+    record { at = p ∷ p ∷ p ∷ p ∷ p ∷ p ∷ p ∷ p ∷ []; len = 1 }
+
+pub only-inside : (k : List ℕ) → AllInside k (onlyHandle k)
+only-inside k =
+    record { few = omega arith; each = λ i l. let e : i ≡ 0 = omega (arith, l) in rw e (record { ordered = omega arith; within = omega arith }) }
+
+only-is : (k : List ℕ) → parts k (onlyHandle k) ≡ k ∷ []
+unfolding parts
+only-is k =
+    let e : length k - 0 ≡ length k = omega arith in
+    rw (e, take-length k)
+
+-- a mixed token has a record with this KeyID exactly if one is chosen
+own-chosen : (m k : List ℕ) (i : ℕ) (t : model.Table) → among k (keyIds (own m t)) ≡ not (empty (places (isChosen m (k ∷ [])) i t))
+unfolding own places
+own-chosen m k i [] = refl
+own-chosen m k i (r ∷ t) =
+    let ih = own-chosen m k (suc i) t in
+    let same = eqBytes-sym (r .keyId) k in
+    split (eqBytes (r .mixed) m)
+    (λ e. split (eqBytes (r .keyId) k) (λ f. rw (e, f, sym same ∙ f)) (λ f. rw (e, f, sym same ∙ f) ih))
+    (λ e. rw e ih)
+
+pub own-found : (m k : List ℕ) (t : model.Table) (r : Rows) → length (r .at) ≡ 32
+    → RowsAre (places (isChosen m (parts k (onlyHandle k))) 0 t) r → not (eqb (r .len) 0) ≡ among k (keyIds (own m t))
+own-found m k t r n h =
+    let is = places (isChosen m (k ∷ [])) 0 t in
+    let q : RowsAre is r = rw (only-is k) at h in
+    let size = length-take-le (r .len) (r .at) (omega (arith, n, q .few)) in
+    let e : empty is ≡ eqb (r .len) 0 = empty-size is (r .len) 0 (omega (arith, size, ap length (q .rows-are))) in
+    ap not (sym e) ∙ sym (own-chosen m k 0 t)

@@ -4,3 +4,4 @@ pub mod Columns
 pub mod Lookups
 pub mod Changes
 pub mod Stored
+pub mod Pairs

@@ -2,6 +2,7 @@
 pub mod changes;
 pub mod columns;
 pub mod lookups;
+pub mod pairs;
 pub mod records;
 pub mod rules;
 pub mod stored;

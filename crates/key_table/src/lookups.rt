@@ -4,6 +4,7 @@ use crate::columns::is_among;
 use crate::columns::row_is;
 use crate::columns::times_in;
 use crate::records::Table;
+use tlv::reader::Span;
 use tlv::reader::Spans;
 use tlv::reader::part_of;
 ghost use mathlib.Core.Path.{_≡_};
@@ -95,4 +96,24 @@ pub fn chosen(t: Table, mixed: &[u8], s: &[u8], handles: Spans) -> Rows
     let owners = column(t, Cell::Mixed);
     let keys = column(t, Cell::KeyId);
     choose(&keys, &owners, n, mixed, s, handles)
+}
+
+// Whether a mixed token has a record with this KeyID: one is chosen by it as the only handle.
+pub fn is_own(t: Table, mixed: &[u8], key: &[u8]) -> bool
+    requires { ⌜ t .len ≤ 32 ⌝ }
+    ensures { λ r. ⌜ r ≡ among (now (key .entry)) (keyIds (own (now (mixed .entry)) (viewTable t))) ⌝ }
+{
+    let n = t.len;
+    let owners = column(t, Cell::Mixed);
+    let keys = column(t, Cell::KeyId);
+    let whole = Span {
+        start: 0,
+        end: key.len(),
+    };
+    let handles = Spans {
+        at: [whole; 8],
+        len: 1,
+    };
+    let rows = choose(&keys, &owners, n, mixed, key, handles);
+    rows.len != 0
 }

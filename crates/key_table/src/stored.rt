@@ -144,14 +144,14 @@ pub fn read_table(s: &[u8]) -> Loaded
 }
 
 // A TLV of an array: its length is its type's.
-fn put_tlv_key(out: &mut [u8], at: usize, tag: usize, v: &[u8; 32]) -> usize
+pub fn put_tlv_key(out: &mut [u8], at: usize, tag: usize, v: &[u8; 32]) -> usize
     requires { ⌜ at + 36 ≤ length (now out) ⌝ }
     ensures { λ r. ⌜ Wrote (now (out .entry)) at (bytes (tlv tag (now (v .entry)) ∷ [])) 36 (now (out .exit)) r ⌝ }
 {
     put_tlv(out, at, tag, v)
 }
 
-fn put_tlv_name(out: &mut [u8], at: usize, tag: usize, v: &[u8; 128], n: usize) -> usize
+pub fn put_tlv_name(out: &mut [u8], at: usize, tag: usize, v: &[u8; 128], n: usize) -> usize
     requires { ⌜ (n ≤ 128) × (at + (4 + n) ≤ length (now out)) ⌝ }
     ensures { λ r. ⌜ Wrote (now (out .entry)) at (bytes (tlv tag (take n (now (v .entry))) ∷ [])) (4 + n) (now (out .exit)) r ⌝ }
 {

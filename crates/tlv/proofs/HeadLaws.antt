@@ -1,4 +1,4 @@
--- Headers at a place, the run of TLVs from a place on, what a loop over such a run goes by, and how long a part is.
+-- Headers at a place, the run of TLVs from a place on, what a loop over such a run goes by, and how long a part is, and whether it is empty.
 -- Assumes nothing.
 use mathlib.Core.Path.{_≡_, refl, sym, ap, _∙_}
 use mathlib.Core.Bool.{Bool, true, false, cond, _&&_, and-false}
@@ -10,7 +10,7 @@ use lib.ListN.{length, take, drop, length-drop, drop-of-length-le}
 use lib.Seq.{drop-drop, length-take-le}
 use lib.Dec.{leb, eqb, eqb·suc-zero}
 use borrow.Author.Tests.{leb-true, leb-false, eqb-true, eqb-false, le-leb, lt-leb, eq-eqb, ne-eqb}
-use Rattle.model.specs.Lists.{all}
+use Rattle.model.specs.Lists.{all, empty}
 use Rattle.model.specs.Tlv.{num, Tlv, tlv, tlvs, tlvsPast, isRun, composite, wellFormed, fills}
 use Rattle.model.proofs.Basics.{split}
 use Rattle.tlv.specs.Numbers.{numAt}
@@ -162,6 +162,14 @@ module _ (p : Tlv → Bool) where
 
 pub length-part : {s : List ℕ} {p : Span} → Inside s p → length (part s p) ≡ p .end - p .start
 length-part {s} {p} i = length-take-le (p .end - p .start) (drop (p .start) s) (simp length-drop (omega (arith, i)))
+
+-- a list is empty exactly if two numbers are equal that differ by its length
+pub empty-size : {A : Type 0} (v : List A) (i j : ℕ) → length v ≡ (i - j) + (j - i) → empty v ≡ eqb i j
+empty-size [] i j e = sym (eq-eqb i j (omega arith))
+empty-size (x ∷ v) i j e = sym (ne-eqb i j (λ k. omega arith))
+
+pub part-empty : {s : List ℕ} {p : Span} → Inside s p → empty (part s p) ≡ eqb (p .start) (p .end)
+part-empty {s} {p} i = empty-size (part s p) (p .start) (p .end) (omega (arith, length-part i, i))
 
 -- ---- a stretch that its first TLV fills
 

@@ -1,5 +1,6 @@
 ghost use mathlib.Core.Path.{_≡_};
 ghost use Prim.Native.Nat.{_+_, _≤_, _<_};
+ghost use mathlib.Core.List.{[], _∷_};
 ghost use lib.ListN.{length};
 ghost use Rattle.model.specs.Tlv.{le};
 ghost use Rattle.tlv.specs.Numbers.{NumberAt};
@@ -33,6 +34,15 @@ fn split(n: usize) -> [u8; 2]
     ensures { λ r. ⌜ r ≡ le 2 n ⌝ }
 {
     [(n % 256) as u8, (n / 256 % 256) as u8]
+}
+
+// Writes a byte.
+pub fn put8(out: &mut [u8], at: usize, b: u8) -> usize
+    requires { ⌜ at + 1 ≤ length (now out) ⌝ }
+    ensures { λ r. ⌜ Wrote (now (out .entry)) at (b ∷ []) 1 (now (out .exit)) r ⌝ }
+{
+    out[at] = b;
+    at + 1
 }
 
 // Writes a number in two bytes.

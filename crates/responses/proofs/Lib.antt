@@ -1,0 +1,2 @@
+-- The laws of the writers.
+pub mod WriterLaws

@@ -1,0 +1,122 @@
+-- What the writers wrote: each response and draft, field by field.
+-- Assumes nothing.
+use mathlib.Core.Path.{_≡_, refl, sym}
+use mathlib.Core.Bool.{Bool, true, false, cond}
+use mathlib.Core.List.{List, [], _∷_, _++_}
+use Prim.Native.Nat.{ℕ, _+_, _-_, _≤_}
+use native.Mathlib.Omega.{arith}
+use lib.ListN.{length}
+use Rattle.model.specs.Tlv.{le, tlv, bytes, header, Kind, full, surrogate, textPlain, uafV1Tlv, contentHash, tagOf}
+use Rattle.model.specs.Layouts.{fill, write}
+use Rattle.model.specs.Records.{Table}
+use Rattle.model.specs.Commands.{krdTag, signedTag, responseTag, statusOnly, infoResponse, nameRows, nameFields, nameResponse}
+use Rattle.tlv.specs.Writing.{Wrote}
+use Rattle.tlv.proofs.WriteLaws.{front, same, then-run, then-value, header-last}
+use Rattle.key_table.specs.Pairs.{pairsOf}
+use Rattle.responses.specs.Lent.{lentInfo}
+use Rattle.responses.specs.Writes.{infoInside, infoStart, krd, signedDraft}
+use Rattle.responses.specs.declared.lent.Numbers.{Numbers}
+
+-- at the front the number of bytes and the place after them are one
+from-front : {s out out′ : List ℕ} {n r : ℕ} → Wrote out 0 s n out′ r → Wrote out 0 s r out′ r
+from-front p = same refl (sym (front p .0)) p
+
+-- ---- a status alone
+
+module _ {d d₁ d₂ : List ℕ} {a₁ a₂ : ℕ} (k : Kind) (n : ℕ) where
+  pub wrote-status : Wrote d 0 (header (responseTag k) 6) 4 d₁ a₁ → Wrote d₁ a₁ (bytes (tlv 0x2808 (le 2 n) ∷ [])) 6 d₂ a₂
+      → Wrote d 0 (write (statusOnly k) (le 2 n ∷ [])) 10 d₂ a₂
+  unfolding write fill
+  wrote-status p q = then-value (responseTag k) p q
+
+-- ---- GetInfo
+
+module _ {d d₁ d₂ d₃ d₄ d₅ d₆ d₇ d₈ : List ℕ} {at a₁ a₂ a₃ a₄ a₅ a₆ a₇ a₈ : ℕ} (a m : List ℕ) where
+  -- a header, and the seven fields one after the other
+  pub wrote-inside : length a ≡ 9 → length m ≡ 15
+      → Wrote d at (header 0x3811 75) 4 d₁ a₁
+      → Wrote d₁ a₁ (bytes (tlv 0x280D (0 ∷ []) ∷ [])) 5 d₂ a₂
+      → Wrote d₂ a₂ (bytes (tlv 0x2E0B a ∷ [])) (4 + length a) d₃ a₃
+      → Wrote d₃ a₃ (bytes (tlv 0x2809 m ∷ [])) (4 + length m) d₄ a₄
+      → Wrote d₄ a₄ (bytes (tlv 0x280C textPlain ∷ [])) 14 d₅ a₅
+      → Wrote d₅ a₅ (bytes (tlv 0x280A uafV1Tlv ∷ [])) 12 d₆ a₆
+      → Wrote d₆ a₆ (bytes (tlv 0x2807 (le 2 full) ∷ [])) 6 d₇ a₇
+      → Wrote d₇ a₇ (bytes (tlv 0x2807 (le 2 surrogate) ∷ [])) 6 d₈ a₈
+      → Wrote d at (bytes (tlv 0x3811 (infoInside a m) ∷ [])) 79 d₈ a₈
+  unfolding infoInside write fill
+  wrote-inside j k p i v w x y f s =
+      then-value 0x3811 p
+      (same refl (omega arith)
+      (then-run _ _ i (then-run _ _ v (then-run _ _ w (then-run _ _ x (then-run _ _ y (then-run _ _ f s)))))))
+
+module _ {d d₁ d₂ d₃ d₄ : List ℕ} {a₁ a₂ a₃ a₄ : ℕ} (a m : List ℕ) where
+  pub wrote-info : Wrote d 0 (header 0x3601 90) 4 d₁ a₁
+      → Wrote d₁ a₁ (bytes (tlv 0x2808 (le 2 0) ∷ [])) 6 d₂ a₂
+      → Wrote d₂ a₂ (bytes (tlv 0x280E (1 ∷ []) ∷ [])) 5 d₃ a₃
+      → Wrote d₃ a₃ (bytes (tlv 0x3811 (infoInside a m) ∷ [])) 79 d₄ a₄
+      → Wrote d 0 (infoResponse (lentInfo a m)) 94 d₄ a₄
+  unfolding infoInside infoResponse write fill
+  wrote-info p s v i = then-value 0x3601 p (then-run _ _ s (then-run _ _ v i))
+
+-- ---- KRD
+
+module _ {d d₁ d₂ d₃ d₄ d₅ d₆ d₇ : List ℕ} {a₁ a₂ a₃ a₄ a₅ a₆ a₇ : ℕ} (a : List ℕ) (n : Numbers) (c k p : List ℕ) where
+  -- a header, and the six fields one after the other
+  pub wrote-krd : length a ≡ 9 → length k ≡ 32
+      → Wrote d 0 (header krdTag (80 + length c + length p)) 4 d₁ a₁
+      → Wrote d₁ a₁ (bytes (tlv 0x2E0B a ∷ [])) (4 + length a) d₂ a₂
+      → Wrote d₂ a₂ (bytes (tlv 0x2E0E (infoStart n 0x01 ++ le 2 (n .«key_algorithm»)) ∷ [])) 11 d₃ a₃
+      → Wrote d₃ a₃ (bytes (tlv 0x2E0A c ∷ [])) (4 + length c) d₄ a₄
+      → Wrote d₄ a₄ (bytes (tlv 0x2E09 k ∷ [])) (4 + length k) d₅ a₅
+      → Wrote d₅ a₅ (bytes (tlv 0x2E0D (0 ∷ 0 ∷ 0 ∷ 0 ∷ 0 ∷ 0 ∷ 0 ∷ 0 ∷ []) ∷ [])) 12 d₆ a₆
+      → Wrote d₆ a₆ (bytes (tlv 0x2E0C p ∷ [])) (4 + length p) d₇ a₇
+      → Wrote d 0 (krd a n c k p) a₇ d₇ a₇
+  unfolding krd write fill le
+  wrote-krd i j h v w x y z u =
+      from-front
+      (then-value krdTag h
+      (same refl (omega arith) (then-run _ _ v (then-run _ _ w (then-run _ _ x (then-run _ _ y (then-run _ _ z u)))))))
+
+-- ---- SIGNED_DATA
+
+-- the transaction hash takes 36 bytes at most
+pub hash-most : (content : Bool) → cond content 36 4 ≤ 36
+hash-most true = omega arith
+hash-most false = omega arith
+
+-- its tag is the same with content and without
+hash-tag : (content : Bool) → tagOf (contentHash content) ≡ 0x2E10
+hash-tag true = refl
+hash-tag false = refl
+
+module _ {d d₁ d₂ d₃ d₄ d₅ d₆ d₇ d₈ : List ℕ} {a₁ a₂ a₃ a₄ a₅ a₆ a₇ a₈ : ℕ} (content : Bool) (a : List ℕ) (n : Numbers) where
+  -- the seven fields one after the other, and the header before them
+  pub wrote-signed : (nonce c hash k : List ℕ) (count : ℕ) {mode : ℕ} → mode ≡ cond content 0x02 0x01
+      → Wrote d 4 (bytes (tlv 0x2E0B a ∷ [])) (4 + length a) d₁ a₁
+      → Wrote d₁ a₁ (bytes (tlv 0x2E0E (infoStart n mode) ∷ [])) 9 d₂ a₂
+      → Wrote d₂ a₂ (bytes (tlv 0x2E0F nonce ∷ [])) (4 + length nonce) d₃ a₃
+      → Wrote d₃ a₃ (bytes (tlv 0x2E0A c ∷ [])) (4 + length c) d₄ a₄
+      → Wrote d₄ a₄ (bytes (tlv 0x2E10 (cond content hash []) ∷ [])) (cond content 36 4) d₅ a₅
+      → Wrote d₅ a₅ (bytes (tlv 0x2E09 k ∷ [])) 36 d₆ a₆
+      → Wrote d₆ a₆ (bytes (tlv 0x2E0D (le 4 count) ∷ [])) 8 d₇ a₇
+      → Wrote d₇ 0 (header signedTag (a₇ - 4)) 4 d₈ a₈
+      → Wrote d 0 (signedDraft content a n nonce c hash k count) a₇ d₈ a₇
+  unfolding signedDraft write fill
+  wrote-signed nonce c hash k count e p i x y z u v h =
+      let run =
+      then-run _ _ p
+      (then-run _ _ (rw e at i) (then-run _ _ x (then-run _ _ y (then-run _ _ z (then-run _ _ u v))))) in
+      rw (hash-tag content) (from-front (header-last signedTag _ (omega (arith, run .next)) run h))
+
+-- ---- the names of several
+
+module _ {d d₁ d₂ d₃ : List ℕ} {a₁ a₂ a₃ : ℕ} (rs : Table) where
+  -- OK and the pairs, and the header before them
+  pub wrote-names : Wrote d 4 (bytes (tlv 0x2808 (le 2 0) ∷ [])) 6 d₁ a₁
+      → Wrote d₁ a₁ (pairsOf rs) (length (pairsOf rs)) d₂ a₂
+      → Wrote d₂ 0 (header 0x3603 (a₂ - 4)) 4 d₃ a₃
+      → Wrote d 0 (nameResponse rs) a₂ d₃ a₂
+  unfolding pairsOf nameResponse write fill
+  wrote-names p q h =
+      let run = then-run _ (fill (nameRows (length rs)) (nameFields rs)) p q in
+      from-front (header-last 0x3603 _ (omega (arith, run .next)) run h)

@@ -1,0 +1,2 @@
+-- What the firmware gets back.
+pub mod Returned
