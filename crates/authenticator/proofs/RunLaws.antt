@@ -164,21 +164,21 @@ kind-named e h = sym h ∙ ap namedAs e
 
 module _ (c : Call) (t : records.Table) where
   pub served-unknown : tlv.kindOf (c .command) ≡ none → served c t ≡ refused 3
-  unfolding served judge
+  unfolding served refusals judge
   served-unknown e = rw e
 
   pub served-wrong : (k : tlv.Kind) → tlv.kindOf (c .command) ≡ some k → lentOk k (c .lent) ≡ false → served c t ≡ refused 4
-  unfolding served judge
+  unfolding served refusals judge
   served-wrong k e h = rw (e, h)
 
   pub served-gave : (k : tlv.Kind) → tlv.kindOf (c .command) ≡ some k → lentOk k (c .lent) ≡ true → served c t ≡ gave (perform k c t)
-  unfolding served judge
+  unfolding served refusals judge
   served-gave k e h = rw (e, h)
 
 -- they look at neither output
 pub served-same : (s : List ℕ) (l : Lent) (n n′ : ℕ) (o o′ : Option ℕ) (t : records.Table)
     → served (call s l n o) t ≡ served (call s l n′ o′) t
-unfolding served perform
+unfolding served refusals perform
 served-same s l n n′ o o′ t = refl
 
 -- ---- refusals 1 and 2, which Refusals of `model` has

@@ -4,13 +4,13 @@ use Prim.Native.Nat.{ℕ, _≤_, _<_}
 use mathlib.Core.Bool.{true}
 use mathlib.Core.List.{List, [], _∷_}
 use mathlib.Core.Option.{none}
-use lib.ListN.{length, getD}
+use lib.ListN.{length, drop, getD}
 use Rattle.model.specs.Tlv.{le, Kind}
 use Rattle.model.specs.Layouts.{write}
 use Rattle.model.specs.Records as records
 use Rattle.model.specs.Records.{hasMixed}
 use Rattle.model.specs.Commands as model
-use Rattle.model.specs.Commands.{statusOnly, bytesOf, over, judge, kind, commandRefusals, Result, refused, gave, Effect, Call, perform, outputs}
+use Rattle.model.specs.Commands.{statusOnly, bytesOf, over, judge, kind, value, refusals, Result, refused, gave, Effect, Call, perform, outputs}
 use Rattle.model.specs.Traces.{leftBy}
 use Rattle.tlv.specs.Heads.{part}
 use Rattle.tlv.specs.Spans.{Inside}
@@ -115,6 +115,6 @@ pub record Gives (o : Result Effect) (t : Table) (out out′ : List ℕ) (r : Ra
   pub as-came : (n : ℕ) → o ≡ refused n → r .table ≡ t
   pub tidy : Tidy t → Tidy (r .table)
 
--- what is still to check once the outputs are long enough and there is a table
+-- what is still to check once the outputs are long enough and there is a table: refusals 3 and 4
 unfoldable pub served : Call → records.Table → Result Effect
-served c t = judge (commandRefusals c) refused (gave (perform (kind c) c t))
+served c t = judge (drop 2 (refusals c (value t))) refused (gave (perform (kind c) c t))

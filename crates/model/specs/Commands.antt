@@ -308,12 +308,13 @@ tableOf (stored s) = decode s
 abbrev pub kind : Call → Kind
 kind c = Option·getD (kindOf (c .command)) getInfo
 
-abbrev pub commandRefusals : Call → List Check
-commandRefusals c = check 3 (not (given (kindOf (c .command)))) ∷ check 4 (not (lentOk (kind c) (c .lent))) ∷ []
-
 unfoldable pub refusals : Call → Given → List Check
 refusals c g =
-    check 1 (shortOutput (c .output) (c .tableOutput)) ∷ check 2 (not (given (tableOf g))) ∷ commandRefusals c
+    check 1 (shortOutput (c .output) (c .tableOutput))
+    ∷ check 2 (not (given (tableOf g)))
+    ∷ check 3 (not (given (kindOf (c .command))))
+    ∷ check 4 (not (lentOk (kind c) (c .lent)))
+    ∷ []
 
 unfoldable pub outcome : Call → Given → Result Effect
 outcome c g = judge (refusals c g) refused (gave (perform (kind c) c (Option·getD (tableOf g) [])))
