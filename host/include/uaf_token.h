@@ -1,8 +1,9 @@
-/* The token's exported entry. What it gives is proved, byte for byte, to be what document 01 defines; that this header declares the entry as
- * it is compiled is not proved and is checked only by calling it.
+/* The token's exported entries. What they give is proved, byte for byte, to be what document 01 defines; that this header declares each entry
+ * as it is compiled is not proved and is checked only by calling it.
  *
- * A stretch is a pointer and a length in bytes. No pointer may be NULL; where a length is 0 the pointer may point anywhere. The two outputs
- * and the three numbers must not overlap each other or any input; inputs may overlap each other. A call takes about 40 KB of stack. */
+ * A stretch is a pointer and a length in bytes. No pointer may be NULL; where a length is 0 the pointer may point anywhere. Outputs, numbers
+ * and arrays that an entry writes must not overlap each other or any input; inputs may overlap each other. A command takes about 40 KB of
+ * stack. */
 #ifndef UAF_TOKEN_H
 #define UAF_TOKEN_H
 
@@ -17,11 +18,12 @@ extern "C" {
 #define UAF_LEAST_RESPONSE 4096
 #define UAF_LEAST_TABLE 6912
 
-/* Refusals. After one of them neither output and none of the three numbers has changed. */
+/* Refusals. After one of them nothing that the caller lent has changed. */
 #define UAF_REFUSED_OUTPUT 1  /* an output is too short */
 #define UAF_REFUSED_TABLE 2   /* the stored table breaks a rule */
 #define UAF_REFUSED_COMMAND 3 /* fewer than 4 bytes, or none of the five commands */
-#define UAF_REFUSED_LENT 4    /* a lent result that this command uses has a wrong length or number */
+#define UAF_REFUSED_LENT 4    /* a lent result that this command or completion uses has a wrong length or number */
+#define UAF_REFUSED_BYTES 5   /* no draft of this kind, or no response */
 
 /* The verdict of the fingerprint. */
 #define UAF_VERIFIED 0
@@ -66,6 +68,39 @@ uint32_t uaf_command(
     uint8_t *response, size_t response_size,
     uint8_t *table_out, size_t table_out_size,
     uint32_t *answer, size_t *response_length, size_t *table_length);
+
+/* The kinds of completion, and the attestation types. */
+#define UAF_COMPLETE_REGISTRATION 0
+#define UAF_COMPLETE_SIGN 1
+#define UAF_BASIC_FULL 0x3E07
+#define UAF_BASIC_SURROGATE 0x3E08
+
+/* Makes the response of a draft and its signature (1 to 512 bytes). A registration has an attestation type, and with full attestation one
+ * certificate (1 to 2,048 bytes), with surrogate none; a sign ignores both. Gives 0 or a refusal: 1, then 5, then 4. The draft must not lie in
+ * response: where a command wrote it there, copy it out first.
+ *
+ * After 0 the first *response_length bytes of response are the response. Bytes beyond are as they were. */
+uint32_t uaf_complete(
+    uint32_t kind,
+    const uint8_t *draft, size_t draft_size,
+    uint32_t attestation,
+    const uint8_t *signature, size_t signature_size,
+    const uint8_t *certificate, size_t certificate_size,
+    uint8_t *response, size_t response_size,
+    size_t *response_length);
+
+/* The reader's first call: where in a response the signed structure stands, KRD or SIGNED_DATA with its four header bytes. Gives 0 or 5. After
+ * 0 it is the *length bytes from *place on; both are 0 for a response without one. */
+uint32_t uaf_signed_part(const uint8_t *response, size_t response_size, size_t *place, size_t *length);
+
+/* The reader's second call: the response tag, the status and, in order, the tag, the value's place and the value's length of each field, that
+ * is of each TLV that holds no other. Gives 0 or 5. After 0 the first *count rows of the three arrays are the fields', the rest are 0; a place
+ * counts from the response's first byte. */
+#define UAF_MOST_FIELDS 17
+uint32_t uaf_read_fields(
+    const uint8_t *response, size_t response_size,
+    size_t *tag, size_t *status, size_t *count,
+    size_t tags[UAF_MOST_FIELDS], size_t places[UAF_MOST_FIELDS], size_t lengths[UAF_MOST_FIELDS]);
 
 #ifdef __cplusplus
 }

@@ -1,13 +1,15 @@
 """Document 01 in Python, to work out what the calls of a trace must give: the stored output of `crates/trace` comes from here.
 
 It shares no text with the proved code or its definitions and is built another way. The same people wrote both, so a misreading of the
-paper that they share would not show. Only what the trace needs is here: the five commands and the stored form of the table."""
+paper that they share would not show. Only what the trace needs is here: the five commands and the stored form of the table; completion and
+the response reader are in responses.py."""
 
 GETINFO, REGISTER, SIGN, DEREGISTER, OPEN_SETTINGS = 0x3401, 0x3402, 0x3403, 0x3404, 0x3406
 KEYHANDLE, USERVERIFY_TOKEN, APPID, ACCESS_TOKEN, USERNAME = 0x2801, 0x2803, 0x2804, 0x2805, 0x2806
 ATTESTATION_TYPE, STATUS_CODE, METADATA, ASSERTION_SCHEME = 0x2807, 0x2808, 0x2809, 0x280A
 CONTENT_TYPE, INDEX, API_VERSION, TRANSACTION_CONTENT = 0x280C, 0x280D, 0x280E, 0x2810
 USERNAME_AND_KEYHANDLE, AUTHENTICATOR_INFO = 0x3802, 0x3811
+AUTHENTICATOR_ASSERTION, REG_ASSERTION, AUTH_ASSERTION, CERT, SIGNATURE = 0x280F, 0x3E01, 0x3E02, 0x2E05, 0x2E06
 KRD, SIGNED_DATA, BASIC_FULL, BASIC_SURROGATE = 0x3E03, 0x3E04, 0x3E07, 0x3E08
 KEYID, CHALLENGE, AAID, PUB_KEY, COUNTERS = 0x2E09, 0x2E0A, 0x2E0B, 0x2E0C, 0x2E0D
 ASSERTION_INFO, NONCE, CONTENT_HASH = 0x2E0E, 0x2E0F, 0x2E10

@@ -11,6 +11,8 @@ from paper import (
     ACCESS_TOKEN, APPID, ATTESTATION_TYPE, CHALLENGE, COUNTERS, DEREGISTER, GETINFO, INDEX, KEYHANDLE, KEYID, OPEN_SETTINGS,
     REGISTER, SIGN, TRANSACTION_CONTENT, USERNAME, USERNAME_AND_KEYHANDLE, USERVERIFY_TOKEN, call, load, store, tlv,
 )
+from readings import completions, readings
+from responses import complete, read
 
 LETTERS = {
     "command": "c", "aaid": "a", "version": "v", "signature_algorithm": "s", "key_algorithm": "g", "metadata": "m",
@@ -18,6 +20,8 @@ LETTERS = {
     "response": "o", "table_output": "w",
 }
 ONE_BYTE = ("verdict", "display")
+FILL, UNSET = b"\xee", 77  # what an output and a number hold before a call
+SEAL_LETTERS = {"kind": "j", "draft": "q", "attestation": "y", "signature": "z", "certificate": "e", "output": "o"}
 
 ANN, BO, CY = (bytes([x]) * 32 for x in (0xA0, 0xB0, 0xC0))  # mixed tokens
 USUAL = {
@@ -76,6 +80,12 @@ def nested(level, value=b""):
     return value
 
 
+def written(data, size, whole):
+    """What the program says of an output of this size after data was written into it."""
+    line = f"{len(data)} {zlib.adler32(data)} {zlib.adler32(FILL * (size - len(data)))}"
+    return line + (" " + data.hex().upper() if whole else "")
+
+
 class Trace:
     def __init__(self):
         self.script, self.expected, self.set, self.table = [], [], {}, b""
@@ -90,21 +100,62 @@ class Trace:
     def run(self, name, command, dump=False, **lent):
         lent = {**USUAL, **lent, "command": command, "table": self.table}
         for what, letter in LETTERS.items():
-            value = lent[what]
-            if isinstance(value, int):
-                value = value.to_bytes(1 if what in ONE_BYTE else 2, "little")
-            if self.set.get(what) != value:
-                self.set[what] = value
-                self.script.append(letter + " " + value.hex().upper())
+            self.lend(letter, lent[what], 1 if what in ONE_BYTE else 2)
         self.script.append(("? " if dump else "! ") + name)
         code, kind, answer, left = call(lent)
         if code:
-            self.expected.append(f"{name}: refusal {code}")
+            sums = f"{zlib.adler32(FILL * lent['response'])} {zlib.adler32(FILL * lent['table_output'])}"
+            self.expected.append(f"{name}: refusal {code} {UNSET} {UNSET} {UNSET} {sums}")
             return
-        line = f"{name}: {'draft' if kind else 'response'} {len(answer)} {answer.hex().upper()}"
-        line += f" table {len(left)} {zlib.adler32(left)}"
-        self.expected.append(line + (" " + left.hex().upper() if dump else ""))
-        self.table = self.set["table"] = left
+        line = f"{name}: {'draft' if kind else 'response'} {written(answer, lent['response'], True)}"
+        self.expected.append(f"{line} table {written(left, lent['table_output'], dump)}")
+        self.table = self.set["t"] = left
+        return answer
+
+    def lend(self, letter, value, size=2):
+        """Sets an argument, if it is not so already."""
+        if isinstance(value, int):
+            value = value.to_bytes(size, "little")
+        if self.set.get(letter) != value:
+            self.set[letter] = value
+            self.script.append(letter + " " + value.hex().upper())
+
+    def complete(self, name, **lent):
+        for what, letter in SEAL_LETTERS.items():
+            self.lend(letter, lent[what])
+        self.script.append("= " + name)
+        code, response = complete(**lent)
+        if code:
+            self.expected.append(f"{name}: refusal {code} {UNSET} {zlib.adler32(FILL * lent['output'])}")
+        else:
+            self.expected.append(f"{name}: completed {written(response, lent['output'], True)}")
+            self.set["r"] = response
+        return response
+
+    def tell_read(self, name, data):
+        self.script.append("< " + name)
+        code, signed, tag, status, fields = read(data)
+        if code:
+            unset = " ".join([str(UNSET)] * 3 + [str(17 * UNSET)] * 3)
+            self.expected.append(f"{name}: signed {code} {UNSET} {UNSET} part {code} 0 1 list {code} {unset}")
+            return code
+        place, size = signed
+        line = f"{name}: signed 0 {place} {size} part 0 {size} {zlib.adler32(data[place : place + size])}"
+        line += f" list 0 {tag} {status} {len(fields)}"
+        self.expected.append(line + "".join(f"; {t} {p} {n}" for t, p, n in fields + [(0, 0, 0)] * (17 - len(fields))))
+        return code
+
+    def read(self, name, data):
+        self.lend("r", data)
+        return self.tell_read(name, data)
+
+    def read_changed(self, name, data, place, byte):
+        """Reads a response with one byte changed."""
+        self.lend("r", data)
+        self.script.append(f"^ {place.to_bytes(2, 'little').hex().upper()}{byte:02X}")
+        code = self.tell_read(name, data[:place] + bytes([byte]) + data[place + 1 :])
+        self.script.append(f"^ {place.to_bytes(2, 'little').hex().upper()}{data[place]:02X}")
+        return code
 
 
 def examples(t):
@@ -327,9 +378,20 @@ def order(t):
     t.run("refusals 1 and 4: 1", info, response=0, aaid=b"")
 
 
+def chain(t):
+    t.say("A registration and a sign-in with content, completed and read: the drafts are those that the commands wrote")
+    t.give([])
+    drafts = (0, t.run("chain, register", register(), key=key(1))), (1, t.run("chain, sign", sign(tlv(TRANSACTION_CONTENT, b"Pay 5"))))
+    for kind, draft in drafts:
+        response = t.complete(
+            f"chain, complete {kind}", kind=kind, draft=draft, attestation=0x3E07, signature=b"\x5c" * 70, certificate=b"\x30" * 9, output=4096
+        )
+        assert t.tell_read(f"chain, read {kind}", response) == 0
+
+
 def main():
     t = Trace()
-    for part in (examples, get_info, registrations, signatures, removals, settings, refusals, lent, order):
+    for part in (examples, get_info, registrations, signatures, removals, settings, refusals, lent, order, chain, completions, readings):
         part(t)
     crate = os.path.join(os.path.dirname(os.path.abspath(__file__)), "..", "..", "crates", "trace")
     for name, lines in (("stdin", t.script), ("stdout", t.expected)):

@@ -1,5 +1,2 @@
--- The laws of the commands' code.
-pub mod JudgeLaws
-pub mod AnswerLaws
-pub mod SignLaws
+-- The laws of a call's code.
 pub mod RunLaws

@@ -27,10 +27,11 @@ use Rattle.key_table.specs.declared.records.Table.{Table}
 use Rattle.key_table.proofs.ViewLaws.{length-view}
 use Rattle.key_table.proofs.ChangeLaws.{set-is-apply}
 use Rattle.responses.specs.Lent.{lentInfo, lentRegister, lentSign, call}
-use Rattle.authenticator.specs.Answers.{Decided, Keeps, Can, CanCount, changeOf, number, Gives, served}
 use Rattle.responses.specs.declared.lent.Numbers.{Numbers}
-use Rattle.authenticator.specs.declared.answers.Change.{Change}
-use Rattle.authenticator.specs.declared.answers.Decision.{Decision}
+use Rattle.decisions.specs.Answers.{Decided, Keeps, Can, CanCount, changeOf}
+use Rattle.decisions.specs.declared.answers.Change.{Change}
+use Rattle.decisions.specs.declared.answers.Decision.{Decision}
+use Rattle.authenticator.specs.Answers.{number, Gives, served}
 use Rattle.authenticator.specs.declared.answers.Refusal.{Refusal}
 use Rattle.authenticator.specs.declared.answers.Outcome.the-variants.{Refused, Gave}
 use Rattle.authenticator.specs.declared.answers.Ran.{Ran}

@@ -1,17 +1,18 @@
-use crate::answers::Change;
-use crate::answers::Decision;
 use crate::answers::Outcome;
 use crate::answers::Ran;
 use crate::answers::Refusal;
-use crate::deregister::deregister;
-use crate::get_info::get_info;
-use crate::lent::lent_ok;
-use crate::open_settings::open_settings;
-use crate::register::register;
-use crate::sign::sign;
 use command::kinds::Kind;
 use command::kinds::Named;
 use command::kinds::kind_of;
+use decisions::answers::Change;
+use decisions::answers::Decision;
+use decisions::deregister::deregister;
+use decisions::get_info::get_info;
+use decisions::lent::lent_ok;
+use decisions::open_settings::open_settings;
+use decisions::register::register;
+use decisions::sign::sign;
+use fields::LEAST_OUTPUT;
 use key_table::changes::append;
 use key_table::changes::remove;
 use key_table::changes::set_count;
@@ -32,7 +33,8 @@ ghost use Rattle.command.specs.Kinds.{kindIs};
 ghost use Rattle.key_table.specs.Views.{viewTable};
 ghost use Rattle.key_table.specs.Changes.{Left};
 ghost use Rattle.responses.specs.Lent.{lentOf, call};
-ghost use Rattle.authenticator.specs.Answers.{Decided, changeOf, Can, Gives, served};
+ghost use Rattle.decisions.specs.Answers.{Decided, changeOf, Can};
+ghost use Rattle.authenticator.specs.Answers.{Gives, served};
 ghost use Rattle.authenticator.specs.declared.answers.Outcome.the-variants.{Refused};
 
 // Picks the command.
@@ -156,9 +158,6 @@ pub fn serve(
         table: apply(t, change, s, mixed, key_id),
     }
 }
-
-// "Response output shorter than 4,096".
-pub const LEAST_OUTPUT: usize = 4096;
 
 // Runs a call on a table by value.
 pub fn run(

@@ -13,7 +13,7 @@ use borrow.Author.Tests.{le-leb, lt-leb, ltb-true, eqb-true, ne-eqb}
 use Rattle.model.specs.Lists.{all, first, select}
 use Rattle.model.specs.Tlv as model
 use Rattle.model.specs.Tlv.{Tlv, Field, keyHandle, Listed, getInfo, register, sign, deregister, openSettings, commandTag, kinds, kindOf, fieldsOf, tagOf, fits, listed, childOk, skippable}
-use Rattle.model.proofs.Basics.{split, and-left, and-right}
+use Rattle.model.proofs.Basics.{split, and-left, and-right, NoneOf}
 use Rattle.tlv.specs.Numbers.{numAt}
 use Rattle.command.specs.Kinds.{kindIs}
 use Rattle.command.specs.Slots.{commandFields, slots, slotField, placeOf, slotOf, timesFor}
@@ -55,18 +55,14 @@ slot-last slot h k =
     let e : slot ≡ 9 = omega arith in
     rw e
 
--- a tag is none of the fields', and what was known before
-abbrev pub NoneOf : Type 0 → ℕ → List Field → Type 0
-NoneOf K tag [] = K
-NoneOf K tag (f ∷ fs) = NoneOf (K × (tag ≡ tagOf f → ⊥)) tag fs
-
-place-none : {K : Type 0} (tag : ℕ) (fs : List Field) → NoneOf K tag fs → K × (placeOf tag fs ≡ length fs)
+-- a tag that is none of the fields'
+place-none : {K : Type 0} (tag : ℕ) (fs : List Field) → NoneOf tagOf K tag fs → K × (placeOf tag fs ≡ length fs)
 place-none tag [] h = (h, refl)
 place-none tag (f ∷ fs) h =
     let rest = place-none tag fs h in
     (rest .0 .0, rw (ne-eqb (tagOf f) tag (λ e. rest .0 .1 (sym e))) (ap suc (rest .1)))
 
-pub slot-none : (tag : ℕ) → NoneOf (Unit {0}) tag commandFields → slotOf tag ≡ slots
+pub slot-none : (tag : ℕ) → NoneOf tagOf (Unit {0}) tag commandFields → slotOf tag ≡ slots
 unfolding slotOf
 slot-none tag h = place-none tag commandFields h .1
 

@@ -23,7 +23,7 @@ use Rattle.tlv.proofs.HeadLaws.{IsTlv, tlv-is, run-end, run-bad, run-tlv, lengt
 use Rattle.fields.specs.Fields.{named, allows, allowedFor, ruleWith, RuleIs, fieldIn, fieldAt}
 use Rattle.fields.specs.declared.Rule.{Rule}
 use Rattle.fields.specs.declared.Field.{Field}
-use Rattle.fields.specs.declared.Field.the-variants.{Index, AppId, ChallengeHash, Username, AttestationType, AccessToken, KeyHandle, KeyId, KeyIdOrNone, UserVerifyToken, TransactionContent, MixedToken, Counter, Aaid, Metadata, PublicKey, Nonce, ContentHash}
+use Rattle.fields.specs.declared.Field.the-variants.{Index, AppId, ChallengeHash, Username, AttestationType, AccessToken, KeyHandle, KeyId, KeyIdOrNone, UserVerifyToken, TransactionContent, MixedToken, Counter, Aaid, Metadata, PublicKey, Nonce, ContentHash, NoContentHash, ApiVersion, ContentType, AssertionScheme, FullType, SurrogateType, KrdInfo, SignedInfo, ContentInfo, NoCounts, NewCount, Signature, Certificate, StatusOk, GetInfoStatus, RegisterStatus, SignStatus, DeregisterStatus, OpenSettingsStatus}
 use Rattle.fields.specs.declared.Found.the-variants.{At, Missing}
 
 allowed-as : (f : Field) (v : List ℕ) → ruleOf (named f) .allowed v ≡ allows (allowedFor f) v
@@ -45,6 +45,25 @@ allowed-as Metadata v = refl
 allowed-as PublicKey v = refl
 allowed-as Nonce v = refl
 allowed-as ContentHash v = refl
+allowed-as NoContentHash v = refl
+allowed-as ApiVersion v = refl
+allowed-as ContentType v = refl
+allowed-as AssertionScheme v = refl
+allowed-as FullType v = refl
+allowed-as SurrogateType v = refl
+allowed-as KrdInfo v = refl
+allowed-as SignedInfo v = refl
+allowed-as ContentInfo v = refl
+allowed-as NoCounts v = refl
+allowed-as NewCount v = refl
+allowed-as Signature v = refl
+allowed-as Certificate v = refl
+allowed-as StatusOk v = refl
+allowed-as GetInfoStatus v = refl
+allowed-as RegisterStatus v = refl
+allowed-as SignStatus v = refl
+allowed-as DeregisterStatus v = refl
+allowed-as OpenSettingsStatus v = refl
 
 -- ---- a value against a rule of the table
 

@@ -1,2 +1,3 @@
 -- The laws of fields read at a place.
 pub mod FieldLaws
+pub mod AllowedLaws

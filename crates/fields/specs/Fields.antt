@@ -1,22 +1,23 @@
 -- Which field of `model` each of the code's is, and what reading one at a place gives.
 use mathlib.Core.Path.{_≡_}
 use Prim.Native.Nat.{ℕ}
-use mathlib.Core.Bool.{Bool, true, cond, _&&_, _||_}
-use mathlib.Core.List.{List, [], _∷_}
-use lib.ListN.{length}
-use lib.Dec.{eqb}
-use Rattle.model.specs.Lists.{eqBytes}
+use mathlib.Core.Bool.{Bool, true, false, cond, _&&_, _||_}
+use mathlib.Core.List.{List, [], _∷_, _++_, map}
+use lib.ListN.{length, getD}
+use lib.Dec.{ltb, eqb}
+use Rattle.model.specs.Lists.{eqBytes, among}
 use Rattle.model.specs.Tlv as model
-use Rattle.model.specs.Tlv.{ruleOf, tagOf, fits}
+use Rattle.model.specs.Tlv.{num, le, full, surrogate, textPlain, uafV1Tlv, ruleOf, tagOf, fits}
+use Rattle.model.specs.Commands.{statuses}
 use Rattle.tlv.specs.Heads.{headAt, between}
 use Rattle.tlv.specs.Spans.{span}
 use Rattle.tlv.specs.declared.reader.Head.{Head}
 use Rattle.tlv.specs.declared.reader.Head.the-variants.{Tlv, Bad, End}
 use Rattle.fields.specs.declared.Allowed.{Allowed}
-use Rattle.fields.specs.declared.Allowed.the-variants.{Any, Zero, EmptyOrKeyId}
+use Rattle.fields.specs.declared.Allowed.the-variants.{Any, Zero, EmptyOrKeyId, One, TextPlain, UafV1Tlv, Full, Surrogate, ZeroCounts, NotZero, Mode1, Mode2, Ok, OfGetInfo, OfRegister, OfSign, OfDeregister, OfOpenSettings}
 use Rattle.fields.specs.declared.Rule.{Rule}
 use Rattle.fields.specs.declared.Field.{Field}
-use Rattle.fields.specs.declared.Field.the-variants.{Index, AppId, ChallengeHash, Username, AttestationType, AccessToken, KeyHandle, KeyId, KeyIdOrNone, UserVerifyToken, TransactionContent, MixedToken, Counter, Aaid, Metadata, PublicKey, Nonce, ContentHash}
+use Rattle.fields.specs.declared.Field.the-variants.{Index, AppId, ChallengeHash, Username, AttestationType, AccessToken, KeyHandle, KeyId, KeyIdOrNone, UserVerifyToken, TransactionContent, MixedToken, Counter, Aaid, Metadata, PublicKey, Nonce, ContentHash, NoContentHash, ApiVersion, ContentType, AssertionScheme, FullType, SurrogateType, KrdInfo, SignedInfo, ContentInfo, NoCounts, NewCount, Signature, Certificate, StatusOk, GetInfoStatus, RegisterStatus, SignStatus, DeregisterStatus, OpenSettingsStatus}
 use Rattle.fields.specs.declared.Found.{Found}
 use Rattle.fields.specs.declared.Found.the-variants.{At, Missing}
 
@@ -39,12 +40,49 @@ named Metadata = model.metadata
 named PublicKey = model.publicKey
 named Nonce = model.nonce
 named ContentHash = model.contentHash true
+named NoContentHash = model.contentHash false
+named ApiVersion = model.apiVersion
+named ContentType = model.contentType
+named AssertionScheme = model.assertionScheme
+named FullType = model.fullType
+named SurrogateType = model.surrogateType
+named KrdInfo = model.assertionInfo 7 0x01
+named SignedInfo = model.assertionInfo 5 0x01
+named ContentInfo = model.assertionInfo 5 0x02
+named NoCounts = model.noCounts
+named NewCount = model.newCount
+named Signature = model.signature
+named Certificate = model.certificate
+named StatusOk = model.ok
+named GetInfoStatus = model.statusAmong (statuses model.getInfo)
+named RegisterStatus = model.statusAmong (statuses model.register)
+named SignStatus = model.statusAmong (statuses model.sign)
+named DeregisterStatus = model.statusAmong (statuses model.deregister)
+named OpenSettingsStatus = model.statusAmong (statuses model.openSettings)
 
 -- what else is asked of a value
+abbrev isStatus : List ℕ → List ℕ → Bool
+isStatus ns v = among v (map (le 2) ns)
+
 abbrev pub allows : Allowed → List ℕ → Bool
 allows Any v = true
 allows Zero v = eqBytes (0 ∷ []) v
 allows EmptyOrKeyId v = eqb (length v) 0 || eqb (length v) 32
+allows One v = eqBytes (1 ∷ []) v
+allows TextPlain v = eqBytes textPlain v
+allows UafV1Tlv v = eqBytes uafV1Tlv v
+allows Full v = eqBytes (le 2 full) v
+allows Surrogate v = eqBytes (le 2 surrogate) v
+allows ZeroCounts v = eqBytes (le 4 0 ++ le 4 0) v
+allows NotZero v = ltb 0 (num v)
+allows Mode1 v = eqb (getD v 2 0) 0x01
+allows Mode2 v = eqb (getD v 2 0) 0x02
+allows Ok v = isStatus (0x00 ∷ []) v
+allows OfGetInfo v = isStatus (statuses model.getInfo) v
+allows OfRegister v = isStatus (statuses model.register) v
+allows OfSign v = isStatus (statuses model.sign) v
+allows OfDeregister v = isStatus (statuses model.deregister) v
+allows OfOpenSettings v = isStatus (statuses model.openSettings) v
 
 abbrev pub allowedFor : Field → Allowed
 allowedFor Index = Zero
@@ -65,6 +103,25 @@ allowedFor Metadata = Any
 allowedFor PublicKey = Any
 allowedFor Nonce = Any
 allowedFor ContentHash = Any
+allowedFor NoContentHash = Any
+allowedFor ApiVersion = One
+allowedFor ContentType = TextPlain
+allowedFor AssertionScheme = UafV1Tlv
+allowedFor FullType = Full
+allowedFor SurrogateType = Surrogate
+allowedFor KrdInfo = Mode1
+allowedFor SignedInfo = Mode1
+allowedFor ContentInfo = Mode2
+allowedFor NoCounts = ZeroCounts
+allowedFor NewCount = NotZero
+allowedFor Signature = Any
+allowedFor Certificate = Any
+allowedFor StatusOk = Ok
+allowedFor GetInfoStatus = OfGetInfo
+allowedFor RegisterStatus = OfRegister
+allowedFor SignStatus = OfSign
+allowedFor DeregisterStatus = OfDeregister
+allowedFor OpenSettingsStatus = OfOpenSettings
 
 abbrev pub ruleWith : ℕ → ℕ → ℕ → Allowed → Rule
 ruleWith t m n a = record { tag = t; least = m; most = n; allowed = a }

@@ -1,4 +1,5 @@
-// The fields of commands and records and what is lent: each one's tag, lengths and what else is asked of its value, in one table.
+// The fields of commands, records, lent results, responses and drafts: each one's tag, lengths and what else is asked of its value, in one
+// table.
 pub mod tags;
 
 use tlv::bytes::same;
@@ -6,12 +7,19 @@ use tlv::reader::Head;
 use tlv::reader::Span;
 use tlv::reader::header;
 ghost use mathlib.Core.Path.{_≡_};
-ghost use Rattle.model.specs.Tlv.{fits};
+ghost use mathlib.Core.List.{map};
+ghost use lib.ListN.{getD};
+ghost use lib.Dec.{ltb, eqb};
+ghost use Rattle.model.specs.Lists.{among};
+ghost use Rattle.model.specs.Tlv.{num, le, fits};
 ghost use Rattle.fields.specs.Fields.{named, allows, ruleWith, RuleIs, fieldAt};
 ghost use Rattle.fields.specs.declared.Allowed.the-variants.{Any};
 
 // "A command is at most 8,192 bytes".
 pub const MAX_COMMAND: usize = 8192;
+
+// "Response output shorter than 4,096".
+pub const LEAST_OUTPUT: usize = 4096;
 
 // A field at a place where document 01 gives it a rule.
 pub enum Field {
@@ -33,6 +41,25 @@ pub enum Field {
     PublicKey,
     Nonce,
     ContentHash,
+    NoContentHash,
+    ApiVersion,
+    ContentType,
+    AssertionScheme,
+    FullType,
+    SurrogateType,
+    KrdInfo,
+    SignedInfo,
+    ContentInfo,
+    NoCounts,
+    NewCount,
+    Signature,
+    Certificate,
+    StatusOk,
+    GetInfoStatus,
+    RegisterStatus,
+    SignStatus,
+    DeregisterStatus,
+    OpenSettingsStatus,
 }
 
 // What else is asked of a value than its length.
@@ -40,6 +67,21 @@ pub enum Allowed {
     Any,
     Zero,
     EmptyOrKeyId,
+    One,
+    TextPlain,
+    UafV1Tlv,
+    Full,
+    Surrogate,
+    ZeroCounts,
+    NotZero,
+    Mode1,
+    Mode2,
+    Ok,
+    OfGetInfo,
+    OfRegister,
+    OfSign,
+    OfDeregister,
+    OfOpenSettings,
 }
 
 // A field's tag, the least and the greatest length of its value, and what else is asked of it.
@@ -61,17 +103,24 @@ fn sized(tag: usize, least: usize, most: usize) -> Rule
     }
 }
 
+// A value of one length, of which more is asked.
+fn exactly(tag: usize, len: usize, allowed: Allowed) -> Rule
+    ensures { λ r. ⌜ r ≡ ruleWith tag len len allowed ⌝ }
+{
+    Rule {
+        tag,
+        least: len,
+        most: len,
+        allowed,
+    }
+}
+
 // The table of rules.
 pub fn rule_of(f: Field) -> Rule
     ensures { λ r. ⌜ RuleIs f r ⌝ }
 {
     match f {
-        Field::Index => Rule {
-            tag: tags::AUTHENTICATOR_INDEX,
-            least: 1,
-            most: 1,
-            allowed: Allowed::Zero,
-        },
+        Field::Index => exactly(tags::AUTHENTICATOR_INDEX, 1, Allowed::Zero),
         Field::AppId => sized(tags::APPID, 1, 512),
         Field::ChallengeHash => sized(tags::FINAL_CHALLENGE_HASH, 1, 32),
         Field::Username => sized(tags::USERNAME, 1, 128),
@@ -94,7 +143,64 @@ pub fn rule_of(f: Field) -> Rule
         Field::PublicKey => sized(tags::PUB_KEY, 1, 512),
         Field::Nonce => sized(tags::NONCE, 8, 32),
         Field::ContentHash => sized(tags::TRANSACTION_CONTENT_HASH, 32, 32),
+        Field::NoContentHash => sized(tags::TRANSACTION_CONTENT_HASH, 0, 0),
+        Field::ApiVersion => exactly(tags::API_VERSION, 1, Allowed::One),
+        Field::ContentType => exactly(tags::TC_DISPLAY_CONTENT_TYPE, 10, Allowed::TextPlain),
+        Field::AssertionScheme => exactly(tags::ASSERTION_SCHEME, 8, Allowed::UafV1Tlv),
+        Field::FullType => exactly(tags::ATTESTATION_TYPE, 2, Allowed::Full),
+        Field::SurrogateType => exactly(tags::ATTESTATION_TYPE, 2, Allowed::Surrogate),
+        Field::KrdInfo => exactly(tags::ASSERTION_INFO, 7, Allowed::Mode1),
+        Field::SignedInfo => exactly(tags::ASSERTION_INFO, 5, Allowed::Mode1),
+        Field::ContentInfo => exactly(tags::ASSERTION_INFO, 5, Allowed::Mode2),
+        Field::NoCounts => exactly(tags::COUNTERS, 8, Allowed::ZeroCounts),
+        Field::NewCount => exactly(tags::COUNTERS, 4, Allowed::NotZero),
+        Field::Signature => sized(tags::SIGNATURE, 1, 512),
+        Field::Certificate => sized(tags::CERT, 1, 2048),
+        Field::StatusOk => exactly(tags::STATUS_CODE, 2, Allowed::Ok),
+        Field::GetInfoStatus => exactly(tags::STATUS_CODE, 2, Allowed::OfGetInfo),
+        Field::RegisterStatus => exactly(tags::STATUS_CODE, 2, Allowed::OfRegister),
+        Field::SignStatus => exactly(tags::STATUS_CODE, 2, Allowed::OfSign),
+        Field::DeregisterStatus => exactly(tags::STATUS_CODE, 2, Allowed::OfDeregister),
+        Field::OpenSettingsStatus => exactly(tags::STATUS_CODE, 2, Allowed::OfOpenSettings),
     }
+}
+
+// Whether a value is one of these statuses, which are below 256.
+fn is_status(v: &[u8], statuses: &[u8]) -> bool
+    ensures { λ r. ⌜ r ≡ among (now (v .entry)) (map (le 2) (now (statuses .entry))) ⌝ }
+{
+    let mut i = 0;
+    while i < statuses.len() {
+        if same(&[statuses[i], 0], v) {
+            return true;
+        }
+        i += 1;
+    }
+    false
+}
+
+// Whether a value's third byte is this mode.
+fn has_mode(v: &[u8], mode: u8) -> bool
+    ensures { λ r. ⌜ r ≡ eqb (getD (now (v .entry)) 2 0) mode ⌝ }
+{
+    if v.len() < 3 {
+        return 0 == mode;
+    }
+    v[2] == mode
+}
+
+// Whether a value is not all zero.
+fn is_not_zero(v: &[u8]) -> bool
+    ensures { λ r. ⌜ r ≡ ltb 0 (num (now (v .entry))) ⌝ }
+{
+    let mut i = 0;
+    while i < v.len() {
+        if v[i] != 0 {
+            return true;
+        }
+        i += 1;
+    }
+    false
 }
 
 fn is_allowed(a: Allowed, v: &[u8]) -> bool
@@ -109,6 +215,21 @@ fn is_allowed(a: Allowed, v: &[u8]) -> bool
             }
             v.len() == 32
         }
+        Allowed::One => same(b"\x01", v),
+        Allowed::TextPlain => same(b"text/plain", v),
+        Allowed::UafV1Tlv => same(b"UAFV1TLV", v),
+        Allowed::Full => same(b"\x07\x3E", v),
+        Allowed::Surrogate => same(b"\x08\x3E", v),
+        Allowed::ZeroCounts => same(b"\x00\x00\x00\x00\x00\x00\x00\x00", v),
+        Allowed::NotZero => is_not_zero(v),
+        Allowed::Mode1 => has_mode(v, 0x01),
+        Allowed::Mode2 => has_mode(v, 0x02),
+        Allowed::Ok => is_status(v, b"\x00"),
+        Allowed::OfGetInfo => is_status(v, b"\x08"),
+        Allowed::OfRegister => is_status(v, b"\x01\x02\x03\x05\x07\x08\x0E\x0F\x10"),
+        Allowed::OfSign => is_status(v, b"\x01\x02\x03\x04\x05\x08\x0E\x10"),
+        Allowed::OfDeregister => is_status(v, b"\x00\x02\x08"),
+        Allowed::OfOpenSettings => is_status(v, b"\x06\x08"),
     }
 }
 

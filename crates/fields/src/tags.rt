@@ -44,7 +44,13 @@ pub const AUTHENTICATOR_INDEX: usize = 0x280D;
 
 pub const API_VERSION: usize = 0x280E;
 
+pub const AUTHENTICATOR_ASSERTION: usize = 0x280F;
+
 pub const TRANSACTION_CONTENT: usize = 0x2810;
+
+pub const CERT: usize = 0x2E05;
+
+pub const SIGNATURE: usize = 0x2E06;
 
 pub const KEYID: usize = 0x2E09;
 
@@ -66,7 +72,11 @@ pub const USERNAME_AND_KEYHANDLE: usize = 0x3802;
 
 pub const AUTHENTICATOR_INFO: usize = 0x3811;
 
-// Signed structures.
+// Assertions and signed structures.
+pub const REG_ASSERTION: usize = 0x3E01;
+
+pub const AUTH_ASSERTION: usize = 0x3E02;
+
 pub const KRD: usize = 0x3E03;
 
 pub const SIGNED_DATA: usize = 0x3E04;

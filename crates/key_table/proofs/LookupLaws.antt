@@ -19,11 +19,12 @@ use Rattle.tlv.specs.Heads.{part}
 use Rattle.tlv.specs.Spans.{span, noSpan, parts, AllInside}
 use Rattle.tlv.specs.declared.reader.Spans.{Spans}
 use Rattle.tlv.proofs.HeadLaws.{empty-size}
-use Rattle.key_table.specs.Columns.{cellOf, rows, row, times}
+use Rattle.columns.specs.Columns.{rows, row, times}
+use Rattle.columns.proofs.ColumnLaws.{rows-at, rows-end}
+use Rattle.key_table.specs.Cells.{cellOf}
 use Rattle.key_table.specs.Lookups.{RowsAre, isChosen, places, chosenIn}
 use Rattle.key_table.specs.declared.lookups.Rows.{Rows}
-use Rattle.key_table.specs.declared.columns.Cell.the-variants.{KeyId, Mixed}
-use Rattle.key_table.proofs.ColumnLaws.{rows-at, rows-end}
+use Rattle.key_table.specs.declared.cells.Cell.the-variants.{KeyId, Mixed}
 
 -- ---- a walk over the handles given
 

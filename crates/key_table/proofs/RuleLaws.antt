@@ -5,7 +5,7 @@ use mathlib.Core.Bool.{Bool, true, false, _&&_, and-true}
 use mathlib.Core.List.{List, [], _∷_, map}
 use Prim.Native.Nat.{ℕ, _≤_, _<_}
 use native.Mathlib.Omega.{arith}
-use lib.ListN.{length, take, drop, drop-of-length-le}
+use lib.ListN.{length, take, drop, getD, drop-of-length-le}
 use borrow.Author.Tests.{le-leb, lt-leb}
 use lib.Dec.{leb}
 use Rattle.model.specs.Lists.{all, distinct}
@@ -13,12 +13,17 @@ use Rattle.model.specs.Tlv.{fits, keyId, mixedToken, username}
 use Rattle.model.specs.Records as model
 use Rattle.model.specs.Records.{recordOk, own, tableOk, maxCount, maxRecords, maxOwn}
 use Rattle.model.proofs.LayoutLaws.{size-fits}
-use Rattle.key_table.specs.Views.{firsts, viewRecord}
-use Rattle.key_table.specs.Columns.{cellOf, times, eachFew}
-use Rattle.key_table.specs.declared.columns.Cell.the-variants.{KeyId, Mixed}
+use Rattle.model.proofs.Rules.{obeys-rules}
+use Rattle.columns.specs.Columns.{times, eachFew}
+use Rattle.columns.specs.Firsts.{firsts}
+use Rattle.columns.proofs.FirstLaws.{firsts-take, length-firsts}
+use Rattle.key_table.specs.Views.{viewRecord, viewTable, noRow}
+use Rattle.key_table.specs.Cells.{cellOf}
+use Rattle.key_table.specs.declared.cells.Cell.the-variants.{KeyId, Mixed}
 use Rattle.key_table.specs.declared.records.Record.{Record}
-use Rattle.key_table.proofs.ViewLaws.{firsts-take, length-firsts}
+use Rattle.key_table.specs.declared.records.Table.{Table}
 use Rattle.key_table.proofs.LookupLaws.{times-own}
+use Rattle.key_table.proofs.ViewLaws.{length-view, row-at}
 
 -- ---- a test of each element, from a place on
 
@@ -71,3 +76,14 @@ pub few-decides : (t : model.Table) → tableOk t
     ≡ (leb (length t) maxRecords && all recordOk t && eachFew maxOwn (map (cellOf Mixed) t) && distinct (map (cellOf KeyId) t))
 unfolding tableOk eachFew
 few-decides t = rw (each-own maxOwn t t)
+
+-- what the rules say of a table by value: the rows that it has, and a name's length
+module _ (t : Table) (ok : tableOk (viewTable t) ≡ true) where
+  pub few-rows : t .len ≤ 32
+  few-rows = omega (arith, obeys-rules (viewTable t) ok .few, length-view t)
+
+  pub short-name : t .len ≤ length (t .rows) → (i : ℕ) → i < t .len → getD (t .rows) i noRow .«name_len» ≤ 128
+  short-name fits-in i h =
+      let r : Record = getD (t .rows) i noRow in
+      let m = rw (row-at t fits-in i h) at (obeys-rules (viewTable t) ok .each i (rw (length-view t) h)) in
+      omega (arith, m .name-most, length-firsts 0 (r .«name_len») (r .name))

@@ -1,4 +1,4 @@
--- What tidy asks of a table without records, of a row stored after the last, of a row set, and of rows freed from the front.
+-- What tidy asks of a row stored after the last, of a row set, and of rows freed from the front.
 -- Assumes nothing.
 use mathlib.Core.Path.{_≡_, refl, sym, ap, _∙_}
 use mathlib.Core.List.{List, [], _∷_}
@@ -10,7 +10,8 @@ use lib.ListN.{length, getD, drop, set}
 use lib.Seq.{getD-set-same, getD-set-other, drop-set-lt, drop-set-add, drop-drop, getD-drop}
 use borrow.Author.Tests.{eqb-true, eqb-false}
 use Rattle.model.proofs.Basics.{split}
-use Rattle.key_table.specs.Views.{firsts, noRow, spareRow, TidyRow, Tidy}
+use Rattle.columns.specs.Firsts.{firsts}
+use Rattle.key_table.specs.Views.{noRow, spareRow, TidyRow, Tidy}
 use Rattle.key_table.specs.declared.records.Record.{Record}
 use Rattle.key_table.specs.declared.records.Table.{Table}
 use Rattle.key_table.proofs.ViewLaws.{table}
@@ -61,10 +62,6 @@ module _ (rows : List Record) (i : ℕ) (r : Record) where
   -- a later row set
   pub rows-later : (n : ℕ) → n ≤ i → TidyRows rows n → TidyRows (set rows i r) n
   rows-later n h p j l = rw (getD-set-other rows i j r noRow (λ e. omega arith)) (p j l)
-
--- no record yet
-pub tidy-none : {r : Record} → r ≡ spareRow → Tidy (table (firsts r 32 []) 0)
-tidy-none e = record { names = λ i h. absurd (omega arith); rest = rw e }
 
 module _ (t : Table) (p : Tidy t) (r : Record) (q : TidyRow r) where
   pub tidy-next : t .len < length (t .rows) → Tidy (table (set (t .rows) (t .len) r) (t .len + 1))

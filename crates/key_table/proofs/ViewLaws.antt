@@ -1,58 +1,26 @@
 -- Laws of the view of a row as a record, and of a table by value as a list of them: its length, its row at a place, its first rows, a row more.
 -- Assumes nothing.
-use mathlib.Core.Path.{_≡_, refl, sym, ap, subst, _∙_}
+use mathlib.Core.Path.{_≡_, sym, ap, subst, _∙_}
 use mathlib.Core.List.{List, [], _∷_, _++_, map, map-append}
-use Prim.Native.Nat.{ℕ, zero, suc, _+_, _≤_, _<_}
+use Prim.Native.Nat.{ℕ, _+_, _≤_, _<_}
 use native.Mathlib.Numerals.{add-one}
 use native.Mathlib.Omega.{arith}
 use lib.ListN.{length, getD, take, drop, set, length-map, length-set, List·getD-map}
 use lib.Seq.{take-suc, take-suc-set, getD-take, drop-cons}
-use Rattle.key_table.specs.Views.{firsts, entry, viewRecord, viewTable, noRow, noRecord, rowOf, spareRow, TidyRow}
+use Rattle.columns.specs.Firsts.{firsts}
+use Rattle.columns.proofs.FirstLaws.{firsts-take, length-firsts, firsts-firsts}
+use Rattle.key_table.specs.Views.{entry, viewRecord, viewTable, noRow, noRecord, rowOf, TidyRow}
 use Rattle.key_table.specs.declared.records.Record.{Record}
 use Rattle.key_table.specs.declared.records.Table.{Table}
 
-module _ {A : Type 0} (z : A) where
-  -- in a list that is long enough
-  pub firsts-take : (n : ℕ) (l : List A) → n ≤ length l → firsts z n l ≡ take n l
-  unfolding firsts
-  firsts-take zero l h = refl
-  firsts-take (suc n) [] h = absurd (omega arith)
-  firsts-take (suc n) (x ∷ l) h = ap (λ (k : List A). x ∷ k) (firsts-take n l (omega arith))
+-- ---- a row that holds a record
 
-  pub length-firsts : (n : ℕ) (l : List A) → length (firsts z n l) ≡ n
-  unfolding firsts
-  length-firsts zero l = refl
-  length-firsts (suc n) [] = ap suc (length-firsts n [])
-  length-firsts (suc n) (x ∷ l) = ap suc (length-firsts n l)
-
-  -- a padded list cut again
-  pub firsts-firsts : (n : ℕ) (l : List A) → length l ≤ n → firsts z (length l) (firsts z n l) ≡ l
-  unfolding firsts
-  firsts-firsts n [] h = refl
-  firsts-firsts zero (x ∷ l) h = absurd (omega arith)
-  firsts-firsts (suc n) (x ∷ l) h = ap (λ (k : List A). x ∷ k) (firsts-firsts n l (omega arith))
-
-  -- a list written over the front of nothing but z
-  pub firsts-over : (n : ℕ) (l : List A) → length l ≤ n → l ++ drop (length l) (firsts z n []) ≡ firsts z n l
-  unfolding firsts
-  firsts-over n [] h = refl
-  firsts-over zero (x ∷ l) h = absurd (omega arith)
-  firsts-over (suc n) (x ∷ l) h = ap (λ (k : List A). x ∷ k) (firsts-over n l (omega arith))
-
--- ---- a row
-
--- that holds a record
 module _ {k m : List ℕ} (v : List ℕ) {n : ℕ} {r : Record} (h : length v ≤ 128) (e : r ≡ rowOf k m v n) where
   pub view-row : viewRecord r ≡ entry k m v n
   view-row = ap viewRecord e ∙ rw (firsts-firsts 0 128 v h)
 
   pub tidy-row : TidyRow r
   tidy-row = subst (λ (x : Record). TidyRow x) (sym e) (rw (firsts-firsts 0 128 v h))
-
--- that holds none
-pub tidy-spare : {r : Record} → r ≡ spareRow → TidyRow r
-unfolding spareRow firsts
-tidy-spare e = subst (λ (x : Record). TidyRow x) (sym e) refl
 
 -- ---- a table
 

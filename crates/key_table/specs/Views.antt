@@ -1,17 +1,12 @@
 -- A row as a record, and a table as a list of records. Spare bytes do not count: those of a name past its length, and rows past the number.
 use mathlib.Core.Path.{_≡_}
-use Prim.Native.Nat.{ℕ, zero, suc, _<_}
-use mathlib.Core.List.{List, [], _∷_, map}
+use Prim.Native.Nat.{ℕ, _<_}
+use mathlib.Core.List.{List, [], map}
 use lib.ListN.{length, getD, drop}
 use Rattle.model.specs.Records as model
+use Rattle.columns.specs.Firsts.{firsts}
 use Rattle.key_table.specs.declared.records.Record.{Record}
 use Rattle.key_table.specs.declared.records.Table.{Table}
-
--- the first n elements of a list, and z for each that it lacks
-unfoldable pub firsts : {A : Type 0} → A → ℕ → List A → List A
-firsts z zero l = []
-firsts z (suc n) [] = z ∷ firsts z n []
-firsts z (suc n) (x ∷ l) = x ∷ firsts z n l
 
 abbrev pub entry : List ℕ → List ℕ → List ℕ → ℕ → model.Record
 entry k m v n = record { keyId = k; mixed = m; name = v; count = n }

@@ -1,9 +1,9 @@
-use crate::columns::Cell;
-use crate::columns::column;
-use crate::columns::is_among;
-use crate::columns::row_is;
-use crate::columns::times_in;
+use crate::cells::Cell;
+use crate::cells::column;
 use crate::records::Table;
+use columns::is_among;
+use columns::row_is;
+use columns::times_in;
 use tlv::reader::Span;
 use tlv::reader::Spans;
 use tlv::reader::part_of;
@@ -14,8 +14,8 @@ ghost use lib.ListN.{length};
 ghost use Rattle.model.specs.Lists.{among, empty};
 ghost use Rattle.model.specs.Records.{own, keyIds};
 ghost use Rattle.tlv.specs.Spans.{parts, AllInside};
+ghost use Rattle.columns.specs.Columns.{rows, row};
 ghost use Rattle.key_table.specs.Views.{viewTable};
-ghost use Rattle.key_table.specs.Columns.{rows, row};
 ghost use Rattle.key_table.specs.Lookups.{RowsAre, places, isChosen, chosenIn};
 
 // Whether a KeyID is stored, by anybody.

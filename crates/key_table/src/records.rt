@@ -2,7 +2,8 @@ use tlv::writer::put_bytes;
 ghost use mathlib.Core.Path.{_≡_};
 ghost use Prim.Native.Nat.{_≤_};
 ghost use lib.ListN.{length};
-ghost use Rattle.key_table.specs.Views.{firsts, rowOf, spareRow};
+ghost use Rattle.columns.specs.Firsts.{firsts};
+ghost use Rattle.key_table.specs.Views.{rowOf, spareRow};
 
 // A record. The name is the first name_len bytes of its array.
 pub struct Record {

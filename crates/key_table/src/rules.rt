@@ -1,9 +1,9 @@
-use crate::columns::Cell;
-use crate::columns::all_distinct;
-use crate::columns::column;
-use crate::columns::each_few;
+use crate::cells::Cell;
+use crate::cells::column;
 use crate::records::Record;
 use crate::records::Table;
+use columns::all_distinct;
+use columns::each_few;
 use fields::Field;
 use fields::fits;
 ghost use mathlib.Core.Path.{_≡_};

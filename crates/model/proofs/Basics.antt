@@ -181,3 +181,10 @@ judge-map f [] says passed = refl
 judge-map f (c ∷ cs) says passed =
     let ih = judge-map f cs says passed in
     split (c .fails) (λ e. rw e) (λ e. rw e ih)
+
+-- ---- a number that was compared with some and is none of them
+
+-- what was known before, and then that it is not the number of each
+abbrev pub NoneOf : {A : Type 0} → (A → ℕ) → Type 0 → ℕ → List A → Type 0
+NoneOf of K n [] = K
+NoneOf of K n (x ∷ xs) = NoneOf of (K × (n ≡ of x → ⊥)) n xs

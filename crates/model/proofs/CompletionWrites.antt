@@ -14,12 +14,12 @@ use Rattle.model.specs.Tlv.{Bytes, le, tlv, bytes, tagOf, fits, register
 use Rattle.model.specs.Layouts.{Layout, end, field, group, fields, size, fill, write, reads}
 use Rattle.model.specs.Commands.{responseTag, refused, gave, keyRegistrationData, signedData, leastOutput, krdTag}
 use Rattle.model.specs.Complete.{Completion, draftsOf, isDraft, completionOk, assertionTag, regAssertionTag, authAssertionTag, completed, complete}
-use Rattle.model.specs.Reader.{asserted, responses}
+use Rattle.model.specs.Reader.{asserted, responses, isHandle, isSigned}
 use Rattle.model.proofs.Basics.{split, and-left, and-right, both, not-not, judged}
 use Rattle.model.proofs.Tlvs.{bytes-append, length-bytes}
 use Rattle.model.proofs.LayoutLaws.{fitAll, reads-written, fill-front, fitAll-front}
 use Rattle.model.proofs.PartLaws.{View, shown, nodes, lacks}
-use Rattle.model.proofs.LayoutWritten.{member, any-found, each-member, WrittenBy, written-length, responses-small, isSigned, isHandle, keysIn, no-keys, outerTag, one-tag}
+use Rattle.model.proofs.LayoutWritten.{member, any-found, each-member, WrittenBy, written-length, responses-small, keysIn, no-keys, outerTag, one-tag}
 use Rattle.model.proofs.CommandWrites.{drafts-each}
 
 -- ---- a draft's kind shows in its outer tag
@@ -85,7 +85,7 @@ pub record Completed (l : Layout) (vs : List (List ℕ)) (d s : List ℕ) : Type
   pub whole : structure .whole ≡ d
 
 -- "response, status OK, AUTHENTICATOR_ASSERTION, the assertion"
-abbrev wrapped : ℕ → ℕ → List ℕ → List ℕ
+abbrev pub wrapped : ℕ → ℕ → List ℕ → List ℕ
 wrapped outer a s = bytes (tlv outer (bytes (tlv (tagOf ok) (le 2 0) ∷ tlv assertionTag (bytes (tlv a s ∷ [])) ∷ [])) ∷ [])
 
 -- a group's values, and those of what comes after it

@@ -13,9 +13,9 @@ use Rattle.model.specs.Tlv.{Bytes}
 use Rattle.model.specs.Layouts.{reads}
 use Rattle.model.specs.Commands.{value, refused, gave, leastOutput}
 use Rattle.model.specs.Complete.{Completion, isDraft, completionOk, completed, complete}
-use Rattle.model.specs.Reader.{Reading, responses, isResponse, readResponse}
+use Rattle.model.specs.Reader.{Reading, responses, isResponse, readResponse, isSigned}
 use Rattle.model.proofs.Basics.{split, clash, and-left}
-use Rattle.model.proofs.LayoutWritten.{all-member, any-found, outerTag, one-tag, isSigned}
+use Rattle.model.proofs.LayoutWritten.{all-member, any-found, outerTag, one-tag}
 use Rattle.model.proofs.CompletionWrites.{completion-passed, draft-reads}
 use Rattle.model.proofs.ReadBack.{CommandReadBack, command-read-back, DraftReadBack, draft-read-back}
 use Rattle.model.proofs.Refusals.{not-read, no-draft, completes}

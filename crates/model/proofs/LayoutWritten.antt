@@ -1,7 +1,7 @@
 -- What it is for a stretch to be the writing of one of some layouts, and what follows: its length, its first tag, and that it is read.
 -- Assumes nothing.
 use mathlib.Core.Path.{_≡_, refl, sym, _∙_}
-use mathlib.Core.Bool.{Bool, true, not, _&&_, _||_}
+use mathlib.Core.Bool.{Bool, true, not, _&&_}
 use mathlib.Core.List.{List, [], _∷_, map, List·Memᴰ, List·Memᴰ·head, List·Memᴰ·tail}
 use mathlib.Core.Option.{Option, none, some}
 use Prim.Native.Nat.{ℕ, zero, suc, _≤_, _<_}
@@ -10,10 +10,10 @@ use lib.ListN.{length, getD}
 use lib.Dec.{leb, eqb}
 use borrow.Author.Tests.{leb-true, eqb-true}
 use Rattle.model.specs.Lists.{all, any, select, distinct}
-use Rattle.model.specs.Tlv.{le, Tlv, tlvs, isRun, tagOf, keyHandle}
+use Rattle.model.specs.Tlv.{le, Tlv, tlvs, isRun, tagOf}
 use Rattle.model.specs.Layouts.{Layout, end, field, group, size, write, matches, reads}
-use Rattle.model.specs.Commands.{krdTag, signedTag, leastOutput}
-use Rattle.model.specs.Reader.{responses, holds, fieldParts, listedKeys}
+use Rattle.model.specs.Commands.{leastOutput}
+use Rattle.model.specs.Reader.{responses, holds, fieldParts, listedKeys, isHandle}
 use Rattle.model.proofs.Basics.{split, clash, and-left, and-right, select-comm}
 use Rattle.model.proofs.LayoutLaws.{fitAll, tagsOk, most, length-write, reads-write}
 use Rattle.model.proofs.PartLaws.{nodes, leaves, lacks, none-such, honest, fields-shown, shown-select, shown-as}
@@ -111,12 +111,6 @@ unfolding le
 responses-small = refl
 
 -- ---- signed structures and key handles
-
-abbrev pub isSigned : ℕ → Bool
-isSigned t = eqb t krdTag || eqb t signedTag
-
-abbrev pub isHandle : ℕ → Bool
-isHandle t = eqb t (tagOf keyHandle)
 
 -- the key handles among these values
 abbrev pub keysIn : Layout → List (List ℕ) → List (List ℕ)

@@ -21,10 +21,5 @@ pub mod DraftWitness
 pub mod ResponseWitness
 pub mod Exactness
 pub mod Separation
-pub mod Conditions
 pub mod Edges
 pub mod EdgesSign
-pub mod Examples
-pub mod Traps
-pub mod Limits
-pub mod LimitsRead

@@ -16,12 +16,12 @@ use Rattle.model.specs.Layouts.{Layout, end, field, group, size, fill, w
 use Rattle.model.specs.Commands.{Call, Given, tableOf, Effect, gave, response, responseTag, kind, outcome, Lent, lentOk, statuses, draft, keyRegistrationData, registerFields, registerDraft, signedData, hasContent, signFields, signDraft}
 use Rattle.model.specs.Records.{Table, Record, recordOk, maxCount}
 use Rattle.model.specs.Complete.{Completion, draftsOf, complete, isDraft}
-use Rattle.model.specs.Reader.{Part, Stretch, Reading, parts, fieldParts, cut, responses, isResponse, signedPart, stretch, readResponse}
+use Rattle.model.specs.Reader.{Part, Stretch, Reading, parts, fieldParts, cut, responses, isResponse, signedPart, stretch, readResponse, isSigned}
 use Rattle.model.proofs.Basics.{and-left, and-right, both, clash, passes}
 use Rattle.model.proofs.Numbers.{num-le}
 use Rattle.model.proofs.LayoutLaws.{fitAll, tagsOk, most, fits-most, fits-least, fit-field, fit-group}
 use Rattle.model.proofs.PartLaws.{nodes, honest, View, view, parts-shown, shown-select, fieldsAt, fields-exact, fields-back, none-such}
-use Rattle.model.proofs.LayoutWritten.{all-member, WrittenBy, written-tags, written-most, written-reads, responses-small, outerTag, isSigned, keysIn, keys-listed, any-found}
+use Rattle.model.proofs.LayoutWritten.{all-member, WrittenBy, written-tags, written-most, written-reads, responses-small, outerTag, keysIn, keys-listed, any-found}
 use Rattle.model.proofs.CommandWrites.{Said, Responded, command-writes, each-kind, completionKind, drafts, drafts-small, status-alone, the-profile, the-names, SaidDraft, WroteDraft, command-drafts, register-writes, sign-writes}
 use Rattle.model.proofs.Kept.{Accepted, accepted}
 use Rattle.model.proofs.EdgesSign.{picked}

@@ -24,12 +24,15 @@ abbrev pub signed : Bool → Layout
 signed content = asserted (responseTag sign) authAssertionTag (signedData content (field signature end))
 
 -- names are listed for two records or more; at most 8 records have one mixed token
+abbrev pub listLengths : List ℕ
+listLengths = 2 ∷ 3 ∷ 4 ∷ 5 ∷ 6 ∷ 7 ∷ 8 ∷ []
+
 abbrev pub responses : List Layout
 responses =
     map statusOnly kinds
     ++ (info ∷ registered full (signature ∷ certificate ∷ []) ∷ registered surrogate (signature ∷ []) ∷ signed true ∷ signed false
     ∷ [])
-    ++ map nameList (2 ∷ 3 ∷ 4 ∷ 5 ∷ 6 ∷ 7 ∷ 8 ∷ [])
+    ++ map nameList listLengths
 
 -- ---- the TLVs of a response: "tag, value's place and value's length", a place counted from the response's first byte
 
@@ -65,13 +68,19 @@ fieldParts s = select (λ p. not (holds (p .tag))) (parts s)
 abbrev pub cut : List ℕ → Part → List ℕ
 cut s p = take (p .size) (drop (p .place) s)
 
+abbrev pub isHandle : ℕ → Bool
+isHandle t = eqb t (tagOf keyHandle)
+
 abbrev pub listedKeys : List ℕ → List (List ℕ)
-listedKeys s = map (cut s) (select (λ p. eqb (p .tag) (tagOf keyHandle)) (fieldParts s))
+listedKeys s = map (cut s) (select (λ p. isHandle (p .tag)) (fieldParts s))
 
 unfoldable pub isResponse : List ℕ → Bool
 isResponse s = any (λ l. reads l s) responses && distinct (listedKeys s)
 
 -- "the signed structure", KRD or SIGNED_DATA with its four header bytes; "Without a signed structure the stretch is empty"
+abbrev pub isSigned : ℕ → Bool
+isSigned t = eqb t krdTag || eqb t signedTag
+
 pub record Stretch : Type 0 where
   pub place : ℕ
   pub size : ℕ
@@ -81,7 +90,7 @@ stretch none = record { place = 0; size = 0 }
 stretch (some p) = record { place = p .place - 4; size = p .size + 4 }
 
 unfoldable pub signedPart : List ℕ → Stretch
-signedPart s = stretch (first (select (λ p. eqb (p .tag) krdTag || eqb (p .tag) signedTag) (parts s)))
+signedPart s = stretch (first (select (λ p. isSigned (p .tag)) (parts s)))
 
 -- what the two calls give: the signed stretch; "the response tag, the status and, in order," the fields
 pub record Reading : Type 0 where

@@ -1,6 +1,6 @@
 -- What the writers wrote: each response and draft, field by field.
 -- Assumes nothing.
-use mathlib.Core.Path.{_≡_, refl, sym}
+use mathlib.Core.Path.{_≡_, refl}
 use mathlib.Core.Bool.{Bool, true, false, cond}
 use mathlib.Core.List.{List, [], _∷_, _++_}
 use Prim.Native.Nat.{ℕ, _+_, _-_, _≤_}
@@ -11,15 +11,11 @@ use Rattle.model.specs.Layouts.{fill, write}
 use Rattle.model.specs.Records.{Table}
 use Rattle.model.specs.Commands.{krdTag, signedTag, responseTag, statusOnly, infoResponse, nameRows, nameFields, nameResponse}
 use Rattle.tlv.specs.Writing.{Wrote}
-use Rattle.tlv.proofs.WriteLaws.{front, same, then-run, then-value, header-last}
-use Rattle.key_table.specs.Pairs.{pairsOf}
+use Rattle.tlv.proofs.WriteLaws.{same, then-run, then-value, header-last, from-front}
+use Rattle.table_bytes.specs.Pairs.{pairsOf}
 use Rattle.responses.specs.Lent.{lentInfo}
 use Rattle.responses.specs.Writes.{infoInside, infoStart, krd, signedDraft}
 use Rattle.responses.specs.declared.lent.Numbers.{Numbers}
-
--- at the front the number of bytes and the place after them are one
-from-front : {s out out′ : List ℕ} {n r : ℕ} → Wrote out 0 s n out′ r → Wrote out 0 s r out′ r
-from-front p = same refl (sym (front p .0)) p
 
 -- ---- a status alone
 

@@ -1,6 +1,6 @@
 use crate::lent::Numbers;
 use fields::tags;
-use key_table::stored::put_tlv_key;
+use table_bytes::stored::put_tlv_key;
 use tlv::numbers::put8;
 use tlv::numbers::put16;
 use tlv::writer::put_header;
@@ -8,7 +8,7 @@ use tlv::writer::put_tlv;
 use tlv::writer::put_tlv_part;
 use tlv::writer::put_tlv32;
 ghost use mathlib.Core.Path.{_≡_};
-ghost use Prim.Native.Nat.{_+_, _-_, _≤_};
+ghost use Prim.Native.Nat.{_+_, _≤_};
 ghost use mathlib.Core.Bool.{cond};
 ghost use mathlib.Core.List.{[], _∷_, _++_};
 ghost use lib.ListN.{length};

@@ -1,8 +1,8 @@
 use crate::status::OK;
 use fields::tags;
 use key_table::lookups::Rows;
-use key_table::pairs::put_pairs;
 use key_table::records::Table;
+use table_bytes::pairs::put_pairs;
 use tlv::writer::put_header;
 use tlv::writer::put_tlv16;
 ghost use mathlib.Core.Path.{_≡_};
@@ -13,7 +13,7 @@ ghost use Rattle.model.specs.Records.{tableOk};
 ghost use Rattle.model.specs.Commands.{nameResponse, leastOutput};
 ghost use Rattle.tlv.specs.Writing.{Wrote};
 ghost use Rattle.key_table.specs.Views.{viewTable};
-ghost use Rattle.key_table.specs.Pairs.{RowsOf, recordsAt};
+ghost use Rattle.table_bytes.specs.Pairs.{RowsOf, recordsAt};
 
 // Writes Sign's response where several are chosen: their names and KeyIDs, oldest first. The header comes last, when the length is known.
 pub fn put_names(out: &mut [u8], t: Table, rows: Rows) -> usize

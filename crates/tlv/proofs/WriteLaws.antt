@@ -64,6 +64,10 @@ front {d} {xs} {d′} {n} {r} p =
     let z : 0 + length xs ≡ n = omega (arith, p) in
     (omega (arith, p), p .bytes ∙ rw z)
 
+-- at the front the number of bytes and the place after them are one
+pub from-front : {d xs d′ : List ℕ} {n r : ℕ} → Wrote d 0 xs n d′ r → Wrote d 0 xs r d′ r
+from-front p = same refl (sym (front p .0)) p
+
 -- ---- TLVs
 
 module _ {d d₁ d₂ : List ℕ} {at m n r₁ r₂ : ℕ} (ts us : List Tlv) where

@@ -1,6 +1,6 @@
 use crate::numbers::put16;
 use crate::numbers::put32;
-ghost use Prim.Native.Nat.{_+_, _≤_, _<_};
+ghost use Prim.Native.Nat.{_+_, _≤_};
 ghost use mathlib.Core.List.{[], _∷_};
 ghost use lib.ListN.{length, take};
 ghost use Rattle.model.specs.Tlv.{le, header, tlv, bytes};

@@ -15,12 +15,13 @@ use Rattle.model.proofs.Kept.{kept}
 use Rattle.tlv.specs.Writing.{Wrote}
 use Rattle.tlv.proofs.WriteLaws.{front}
 use Rattle.key_table.specs.Views.{viewTable}
-use Rattle.key_table.specs.Stored.{TableIs}
 use Rattle.key_table.specs.declared.records.Table.{Table}
-use Rattle.key_table.specs.declared.stored.Loaded.{Loaded}
-use Rattle.authenticator.specs.Answers.{sizeOf, number, said, sizes, Gives, served}
+use Rattle.table_bytes.specs.Stored.{TableIs}
+use Rattle.table_bytes.specs.declared.stored.Loaded.{Loaded}
 use Rattle.responses.specs.Lent.{call}
-use Rattle.authenticator.specs.declared.answers.Answer.{Answer}
+use Rattle.decisions.specs.Answers.{sizeOf}
+use Rattle.decisions.specs.declared.answers.Answer.{Answer}
+use Rattle.authenticator.specs.Answers.{number, said, sizes, Gives, served}
 use Rattle.authenticator.specs.declared.answers.Refusal.{Refusal}
 use Rattle.authenticator.specs.declared.answers.Outcome.the-variants.{Refused, Gave}
 use Rattle.authenticator.specs.declared.answers.Ran.{Ran}

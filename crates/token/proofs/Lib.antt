@@ -1,2 +1,4 @@
 -- The laws of the exported entries.
 pub mod EntryLaws
+pub mod AssertionLaws
+pub mod RoundTrip

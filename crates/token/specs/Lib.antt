@@ -1,2 +1,3 @@
 -- What the firmware gets back.
 pub mod Returned
+pub mod Assertions

@@ -6,8 +6,8 @@ use lib.ListN.{length}
 use Rattle.model.specs.Records.{encode}
 use Rattle.model.specs.Commands.{Answer, response, draft, Result, refused, gave, Effect, bytesOf, outputs}
 use Rattle.responses.specs.declared.lent.Numbers.{Numbers}
-use Rattle.authenticator.specs.declared.answers.Answer.{Answer as Written}
-use Rattle.authenticator.specs.declared.answers.Answer.the-variants.{Response, Draft}
+use Rattle.decisions.specs.declared.answers.Answer.{Answer as Written}
+use Rattle.decisions.specs.declared.answers.Answer.the-variants.{Response, Draft}
 
 -- the refusal number, or 0; the three numbers and the two outputs that it lent
 pub record Returned : Type 0 where

@@ -1,12 +1,15 @@
-use authenticator::answers::Answer;
+// The exported entries: numbers and byte stretches only.
+pub mod assertions;
+
 use authenticator::answers::Outcome;
 use authenticator::answers::Refusal;
 use authenticator::answers::number_of;
-use authenticator::run::LEAST_OUTPUT;
 use authenticator::run::serve;
-use key_table::stored::read_table;
-use key_table::stored::write_table;
+use decisions::answers::Answer;
+use fields::LEAST_OUTPUT;
 use responses::lent::Numbers;
+use table_bytes::stored::read_table;
+use table_bytes::stored::write_table;
 ghost use mathlib.Core.Path.{_≡_};
 ghost use mathlib.Core.Option.{some};
 ghost use lib.ListN.{length};

@@ -1,5 +1,5 @@
 use Rattle.authenticator.proofs.RunLaws.{keeps-decides, arm-decides, arm-rules}
-use Rattle.key_table.proofs.StoreLaws.{few-rows}
+use Rattle.key_table.proofs.RuleLaws.{few-rows}
 use native.Mathlib.Omega.{arith}
 use borrow.Author.Needs.{needs}
 use Rattle.authenticator.proofs.run.decide.Statement.{statement}

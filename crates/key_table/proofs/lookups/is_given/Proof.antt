@@ -7,7 +7,7 @@ use denote.Ref.{now}
 use lib.ListN.{length, drop, length-map}
 use Rattle.model.specs.Lists.{among, empty, eqBytes}
 use Rattle.tlv.specs.Spans.{parts}
-use Rattle.key_table.specs.Columns.{row}
+use Rattle.columns.specs.Columns.{row}
 use Rattle.key_table.proofs.LookupLaws.{given-none, given-some, given-at, given-end}
 use Rattle.key_table.proofs.lookups.is_given.Statement.{statement}
 use Rattle.key_table.proofs.lookups.is_given.Tie as tie

@@ -1,7 +1,7 @@
 use borrow.Author.Needs.{needs}
 use mathlib.Core.Path.{ap, _∙_}
 use denote.Ref.{now}
-use Rattle.key_table.specs.Columns.{times}
+use Rattle.columns.specs.Columns.{times}
 use Rattle.key_table.specs.Views.{viewTable}
 use Rattle.key_table.proofs.LookupLaws.{times-own}
 use Rattle.key_table.proofs.lookups.own_count.Statement.{statement}

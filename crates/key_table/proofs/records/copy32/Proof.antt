@@ -4,8 +4,8 @@ use native.Mathlib.Omega.{arith}
 use borrow.Author.Needs.{needs}
 use denote.Ref.{now}
 use Rattle.tlv.proofs.WriteLaws.{front}
-use Rattle.key_table.specs.Views.{firsts}
-use Rattle.key_table.proofs.ViewLaws.{firsts-take, firsts-over}
+use Rattle.columns.specs.Firsts.{firsts}
+use Rattle.columns.proofs.FirstLaws.{firsts-take, firsts-over}
 use Rattle.key_table.proofs.records.copy32.Statement.{statement}
 use Rattle.key_table.proofs.records.copy32.Tie as tie
 

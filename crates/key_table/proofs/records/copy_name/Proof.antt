@@ -3,8 +3,8 @@ use native.Mathlib.Omega.{arith}
 use borrow.Author.Needs.{needs}
 use denote.Ref.{now}
 use Rattle.tlv.proofs.WriteLaws.{front}
-use Rattle.key_table.specs.Views.{firsts}
-use Rattle.key_table.proofs.ViewLaws.{firsts-over}
+use Rattle.columns.specs.Firsts.{firsts}
+use Rattle.columns.proofs.FirstLaws.{firsts-over}
 use Rattle.key_table.proofs.records.copy_name.Statement.{statement}
 use Rattle.key_table.proofs.records.copy_name.Tie as tie
 

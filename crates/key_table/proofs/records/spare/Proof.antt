@@ -1,5 +1,6 @@
 use mathlib.Core.Path.{refl}
-use Rattle.key_table.specs.Views.{firsts, spareRow}
+use Rattle.columns.specs.Firsts.{firsts}
+use Rattle.key_table.specs.Views.{spareRow}
 use Rattle.key_table.proofs.records.spare.Statement.{statement}
 use Rattle.key_table.proofs.records.spare.Tie as tie
 

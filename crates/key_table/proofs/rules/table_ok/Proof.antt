@@ -7,9 +7,10 @@ use lib.Dec.{leb}
 use borrow.Author.Tests.{le-leb, lt-leb, not-true, not-false}
 use Rattle.model.specs.Lists.{all}
 use Rattle.model.specs.Records.{recordOk}
+use Rattle.columns.specs.Columns.{eachFew}
 use Rattle.key_table.specs.Views.{viewTable}
-use Rattle.key_table.specs.Columns.{cellOf, eachFew}
-use Rattle.key_table.specs.declared.columns.Cell.the-variants.{Mixed}
+use Rattle.key_table.specs.Cells.{cellOf}
+use Rattle.key_table.specs.declared.cells.Cell.the-variants.{Mixed}
 use Rattle.key_table.proofs.ViewLaws.{length-view}
 use Rattle.key_table.proofs.RuleLaws.{few-decides}
 use borrow.Author.Needs.{needs}

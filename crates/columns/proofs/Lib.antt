@@ -1,0 +1,3 @@
+-- The laws of columns, and of lists that fill an array.
+pub mod ColumnLaws
+pub mod FirstLaws

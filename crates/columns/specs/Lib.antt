@@ -1,0 +1,3 @@
+-- What the contracts say of columns.
+pub mod Columns
+pub mod Firsts

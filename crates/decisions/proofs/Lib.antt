@@ -1,0 +1,4 @@
+-- The laws of the commands' code.
+pub mod JudgeLaws
+pub mod AnswerLaws
+pub mod SignLaws

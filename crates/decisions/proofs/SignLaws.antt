@@ -1,0 +1,238 @@
+-- What Sign decides: on one chosen record, and by how many are chosen.
+-- Assumes nothing.
+use mathlib.Core.Path.{_≡_, refl, sym, ap, _∙_}
+use mathlib.Core.Bool.{Bool, true, false, not, _&&_, _||_}
+use mathlib.Core.List.{List, [], _∷_, map}
+use mathlib.Core.Option.{some}
+use Prim.Native.Nat.{ℕ, zero, suc, _+_, _≤_, _<_}
+use native.Mathlib.Nat.{pos-of-ne-zero}
+use native.Mathlib.Numerals.{add-one}
+use native.Mathlib.Omega.{arith}
+use lib.ListN.{length, getD, take, length-map}
+use lib.Seq.{getD-take, length-take-le}
+use lib.Dec.{eqb}
+use borrow.Author.Tests.{eqb-false}
+use Rattle.model.specs.Lists.{select, first, empty, among}
+use Rattle.model.specs.Tlv.{sign, challengeHash, transactionContent, keyHandle, broken, fieldsIn, fieldIn}
+use Rattle.model.specs.Records as records
+use Rattle.model.specs.Records.{maxCount, tableOk, own, hasMixed}
+use Rattle.model.specs.Commands.{Lent, Check, check, judge, only, keep, response, displayStatus, verdictStatus, hasContent, signDraft, signOne, chosen, nameResponse, signChosen, decideSign}
+use Rattle.model.proofs.Basics.{and-left, first-passes, length-select}
+use Rattle.model.proofs.Rules.{obeys-rules}
+use Rattle.tlv.specs.Heads.{part}
+use Rattle.tlv.specs.Spans.{parts}
+use Rattle.tlv.specs.Writing.{Wrote}
+use Rattle.tlv.specs.declared.reader.Span.{Span}
+use Rattle.tlv.proofs.HeadLaws.{part-empty}
+use Rattle.command.specs.Parse.{Placed, FieldsPlaced, Answers}
+use Rattle.command.specs.declared.parse.Fields.{Fields}
+use Rattle.key_table.specs.Views.{viewRecord, viewTable, noRow, noRecord}
+use Rattle.key_table.specs.Lookups.{places, isChosen, RowsAre}
+use Rattle.key_table.specs.declared.lookups.Rows.{Rows}
+use Rattle.key_table.specs.declared.records.Record.{Record}
+use Rattle.key_table.specs.declared.records.Table.{Table}
+use Rattle.key_table.proofs.ViewLaws.{length-view, row-at}
+use Rattle.key_table.proofs.LookupLaws.{places-select, places-below, chosen-is}
+use Rattle.table_bytes.specs.Pairs.{RowsOf, recordsAt}
+use Rattle.responses.specs.Lent.{lentSign}
+use Rattle.responses.specs.Writes.{signedDraft}
+use Rattle.decisions.specs.Answers.{Decided, DecidedAt, StatusAlone}
+use Rattle.responses.specs.declared.lent.Numbers.{Numbers}
+use Rattle.decisions.specs.declared.answers.Answer.the-variants.{Response, Draft}
+use Rattle.decisions.specs.declared.answers.Change.the-variants.{Keep, SetCount}
+use Rattle.decisions.specs.declared.answers.Decision.{Decision}
+use Rattle.decisions.specs.declared.answers.Judged.{Judged}
+use Rattle.decisions.specs.declared.answers.Judged.the-variants.{Fails, Passes}
+use Rattle.decisions.proofs.AnswerLaws.{wrote-response, wrote-draft, judge-fails, judge-passed, judge-passes, status-decided}
+
+-- ---- transaction content
+
+-- a part holds bytes
+abbrev filled : Span → Bool
+filled p = not (eqb (p .start) (p .end))
+
+-- the code's test for content
+content-is : {s : List ℕ} {p : Span} → Placed s transactionContent p → filled p ≡ hasContent s
+unfolding hasContent
+content-is {s} {p} h = ap not (sym (part-empty (h .inside))) ∙ rw (h .value)
+
+-- ---- one record
+
+-- the checks
+abbrev signs : Bool → Numbers → Record → List Check
+signs content n r =
+    check (displayStatus (n .display)) (content && not (eqb (n .display) 0)) ∷ check 0x01 (eqb (r .count) maxCount) ∷ []
+
+-- where they pass, a counter of 32 bits can rise
+pub count-rises : (f : Fields) (n : Numbers) (r : Record) {j : Judged}
+    → j ≡ judge (signs (filled (f .«transaction_content»)) n r) Fails Passes → j ≡ Passes
+    → r .count < 4294967296 → r .count + 1 < 4294967296
+count-rises f n r e o h =
+    let p = judge-passed (signs (filled (f .«transaction_content»)) n r) (sym e ∙ o) in
+    omega (arith, eqb-false (r .count) maxCount (p .1 .0))
+
+-- the draft of the definition
+sign-draft : (s a : List ℕ) (n : Numbers) (m nonce hash : List ℕ) (r : Record)
+    → signedDraft (hasContent s) a n nonce (fieldIn challengeHash s) hash (r .«key_id») (r .count + 1)
+    ≡ signDraft s (lentSign a n m nonce hash) (viewRecord r)
+unfolding signedDraft signDraft
+sign-draft s a n m nonce hash r = rw add-one
+
+-- j is what the code's judgment gave
+module _ {s : List ℕ} {f : Fields} (a : List ℕ) (n : Numbers) (nonce hash : List ℕ) (r : Record) (row : ℕ) (placed : FieldsPlaced s f)
+    {j : Judged} (e : j ≡ judge (signs (filled (f .«transaction_content»)) n r) Fails Passes) {out out′ : List ℕ} where
+  -- the status of the first that fails was written
+  pub one-fails : {i : ℕ} {d : Decision} → j ≡ Fails i → StatusAlone sign i Keep out out′ d
+      → DecidedAt s row r (signOne s (lentSign a n [] nonce hash) (viewRecord r)) out out′ d
+  unfolding signOne
+  one-fails {i} o p =
+      let q = judge-fails (signs (hasContent s) n r) (only sign keep) _ i
+      (rw (content-is (placed .transaction-content)) at (sym e ∙ o)) in
+      record { decided = λ k m t g h. status-decided p tt q }
+
+  -- the draft was written, and the change raises the counter
+  pub one-passes : {c : List ℕ} {i q : ℕ} → j ≡ Passes → c ≡ part s (f .«challenge_hash»)
+      → Wrote out 0 (signedDraft (filled (f .«transaction_content»)) a n nonce c hash (r .«key_id») (r .count + 1)) i out′ q
+      → DecidedAt s row r (signOne s (lentSign a n [] nonce hash) (viewRecord r)) out out′ (record { answer = Draft q; change = SetCount row (r .count + 1) })
+  unfolding signOne
+  one-passes o g w =
+      let v = content-is (placed .transaction-content) in
+      let l = signs (hasContent s) n r in
+      let d = sign-draft s a n [] nonce hash r in
+      record {
+        decided =
+            λ k m t at can.
+            rw (judge-passes l (only sign keep) _ (rw v at (sym e ∙ o)))
+            (record { answered = wrote-draft (rw (v, g, placed .challenge-hash .value, d) at w); change = rw (at, add-one); can = can });
+      }
+
+-- ---- the records chosen
+
+module _ (g : ℕ → records.Record) where
+  -- the records at the places that an array begins with
+  first-at : (n : ℕ) (at : List ℕ) → 0 < n → n ≤ length at → first (map g (take n at)) ≡ some (g (getD at 0 0))
+  first-at zero at h k = absurd (omega arith)
+  first-at (suc n) [] h k = absurd (omega arith)
+  first-at (suc n) (i ∷ at) h k = refl
+
+  one-at : (n : ℕ) (at : List ℕ) → n ≡ 1 → n ≤ length at → map g (take n at) ≡ g (getD at 0 0) ∷ []
+  one-at n [] e k = absurd (omega arith)
+  one-at n (i ∷ at) e k = rw e
+
+chosen-few : (hs : List (List ℕ)) (mine : records.Table) → length (chosen hs mine) ≤ length mine
+unfolding chosen
+chosen-few hs mine = length-select (λ r. empty hs || among (r .keyId) hs) mine
+
+-- rows are those of the records that a command s of the holder m chooses
+pub record Chose (s m : List ℕ) (t : Table) (rows : Rows) : Type 0 where
+  pub ok : tableOk (viewTable t) ≡ true
+  pub records-are : recordsAt (viewTable t) rows ≡ chosen (fieldsIn keyHandle s) (own m (viewTable t))
+  pub number : length (recordsAt (viewTable t) rows) ≡ rows .len
+  pub size : rows .len ≤ length (rows .at)
+  pub few : rows .len ≤ 8
+  pub rows-of : RowsOf t rows
+  pub first-mine : 0 < rows .len → hasMixed m (getD (viewTable t) (getD (rows .at) 0 0) noRecord) ≡ true
+
+-- what the rows found tell
+pub chose : {s m : List ℕ} {t : Table} {f : Fields} {rows : Rows} → FieldsPlaced s f → tableOk (viewTable t) ≡ true
+    → length (rows .at) ≡ 32 → RowsAre (places (isChosen m (parts s (f .handles))) 0 (viewTable t)) rows → Chose s m t rows
+chose {s} {m} {t} {f} {rows} p ok l is =
+    let v : records.Table = viewTable t in
+    let hs : List (List ℕ) = parts s (f .handles) in
+    let g : ℕ → records.Record = λ i. getD v i noRecord in
+    let fits : rows .len ≤ length (rows .at) = omega (arith, is .few) in
+    let n : length (take (rows .len) (rows .at)) ≡ rows .len = length-take-le (rows .len) (rows .at) fits in
+    let a : recordsAt v rows ≡ select (isChosen m hs) v = ap (map g) (is .rows-are) ∙ places-select (isChosen m hs) noRecord v in
+    let c : recordsAt v rows ≡ chosen (fieldsIn keyHandle s) (own m v) =
+    a ∙ chosen-is m hs v ∙ rw (p .handles .values) in
+    let k : length (recordsAt v rows) ≡ rows .len = simp length-map n in
+    let below : (i : ℕ) → i < rows .len → getD (rows .at) i 0 < length v =
+    λ i h. rw (← getD-take (rows .len) (rows .at) i 0 h, is .rows-are)
+    (places-below (isChosen m hs) v i (omega (arith, n, ap length (is .rows-are)))) in
+    record {
+      ok = ok;
+      records-are = c;
+      number = k;
+      size = fits;
+      few = omega (arith, k, ap length c, chosen-few (fieldsIn keyHandle s) (own m v), obeys-rules v ok .own-few m);
+      rows-of = record { few = is .few; each = λ i h. omega (arith, below i h, length-view t) };
+      first-mine =
+          λ h. and-left (hasMixed m (g (getD (rows .at) 0 0))) _
+          (first-passes (isChosen m hs) v (g (getD (rows .at) 0 0)) (ap first (sym a) ∙ first-at g (rows .len) (rows .at) h fits));
+    }
+
+-- ---- the command
+
+-- none, several, one
+chosen-none : (s : List ℕ) (l : Lent) (rs : records.Table) → length rs ≡ 0 → signChosen s l rs ≡ only sign keep 0x02
+unfolding signChosen
+chosen-none s l [] h = refl
+chosen-none s l (r ∷ rs) h = absurd (omega arith)
+
+chosen-several : (s : List ℕ) (l : Lent) (rs : records.Table) → 2 ≤ length rs
+    → signChosen s l rs ≡ record { answer = response (nameResponse rs); change = keep }
+unfolding signChosen
+chosen-several s l [] h = absurd (omega arith)
+chosen-several s l (r ∷ []) h = absurd (omega arith)
+chosen-several s l (r ∷ q ∷ rs) h = refl
+
+-- which does not read the mixed token
+chosen-one : (s a : List ℕ) (n : Numbers) (m nonce hash : List ℕ) (r : records.Record)
+    → signChosen s (lentSign a n m nonce hash) (r ∷ []) ≡ signOne s (lentSign a n [] nonce hash) r
+unfolding signChosen signOne signDraft
+chosen-one s a n m nonce hash r = refl
+
+-- the checks
+abbrev users : Bool → Numbers → List Check
+users broken n = check 0x08 broken ∷ check (verdictStatus (n .verdict)) (not (eqb (n .verdict) 0)) ∷ []
+
+-- j is what the code's judgment gave
+module _ {s : List ℕ} {f : Fields} (n : Numbers) (q : Answers sign s f) {j : Judged} (e : j ≡ judge (users (f .broken) n) Fails Passes) where
+  judged-so : judge (users (broken sign s) n) Fails Passes ≡ j
+  judged-so = rw (← q .broken-is) (sym e)
+
+  pub sign-fails : (a m nonce hash : List ℕ) (mine : records.Table) {i : ℕ} → j ≡ Fails i
+      → decideSign s (lentSign a n m nonce hash) mine ≡ only sign keep i
+  unfolding decideSign
+  sign-fails a m nonce hash mine {i} o = judge-fails (users (broken sign s) n) (only sign keep) _ i (judged-so ∙ o)
+
+  module _ (o : j ≡ Passes) where
+    pub sign-unbroken : broken sign s ≡ false
+    sign-unbroken = judge-passed (users (broken sign s) n) (judged-so ∙ o) .0
+
+    sign-passes : (a m nonce hash : List ℕ) (mine : records.Table)
+        → decideSign s (lentSign a n m nonce hash) mine ≡ signChosen s (lentSign a n m nonce hash) (chosen (fieldsIn keyHandle s) mine)
+    unfolding decideSign
+    sign-passes a m nonce hash mine = judge-passes (users (broken sign s) n) (only sign keep) _ (judged-so ∙ o)
+
+    -- by how many are chosen
+    module _ (a nonce hash : List ℕ) {m : List ℕ} {t : Table} {rows : Rows} (w : Chose s m t rows) where
+      abbrev l : Lent
+      l = lentSign a n m nonce hash
+
+      sign-at : decideSign s l (own m (viewTable t)) ≡ signChosen s l (recordsAt (viewTable t) rows)
+      sign-at = sign-passes a m nonce hash (own m (viewTable t)) ∙ ap (signChosen s l) (sym (w .records-are))
+
+      pub none-chosen : rows .len ≡ 0 → decideSign s l (own m (viewTable t)) ≡ only sign keep 0x02
+      none-chosen h = sign-at ∙ chosen-none s l (recordsAt (viewTable t) rows) (w .number ∙ h)
+
+      pub one-chosen : t .len ≤ length (t .rows) → rows .len ≡ 1 → (k : List ℕ) {out out′ : List ℕ} {d : Decision}
+          → let row = getD (rows .at) 0 0 in let r = getD (t .rows) row noRow in
+          DecidedAt s row r (signOne s (lentSign a n [] nonce hash) (viewRecord r)) out out′ d
+          → Decided s k m t (decideSign s l (own m (viewTable t))) out out′ d
+      one-chosen fits h k p =
+          let row : ℕ = getD (rows .at) 0 0 in
+          let r : Record = getD (t .rows) row noRow in
+          let inside : row < t .len = w .rows-of .each 0 (omega arith) in
+          let at : getD (viewTable t) row noRecord ≡ viewRecord r = row-at t fits row inside in
+          let one : recordsAt (viewTable t) rows ≡ viewRecord r ∷ [] =
+          one-at (λ i. getD (viewTable t) i noRecord) (rows .len) (rows .at) h (w .size) ∙ rw at in
+          rw (sign-at ∙ ap (signChosen s l) one ∙ chosen-one s a n m nonce hash (viewRecord r))
+          (p .decided k m t at (record { row = inside; mine = w .first-mine (omega arith) }))
+
+      pub several-chosen : (rows .len ≡ 0 → ⊥) → (rows .len ≡ 1 → ⊥) → (k : List ℕ) {out out′ : List ℕ} {i r : ℕ}
+          → Wrote out 0 (nameResponse (recordsAt (viewTable t) rows)) i out′ r
+          → Decided s k m t (decideSign s l (own m (viewTable t))) out out′ (record { answer = Response r; change = Keep })
+      several-chosen g h k p =
+          rw (sign-at ∙ chosen-several s l (recordsAt (viewTable t) rows) (omega (arith, w .number, pos-of-ne-zero g)))
+          (record { answered = wrote-response p; change = refl; can = tt })

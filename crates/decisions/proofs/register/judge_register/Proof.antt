@@ -1,0 +1,118 @@
+use borrow.Author.Needs.{needs}
+use mathlib.Core.Path.{_≡_, sym, _∙_}
+use mathlib.Core.Bool.{false, _||_}
+use denote.Ref.{now}
+use lib.Dec.{leb, eqb}
+use lib.ListN.{length}
+use borrow.Author.Tests.{ne-eqb, eq-eqb, le-leb, lt-leb, not-true, not-false}
+use Rattle.model.specs.Lists.{among}
+use Rattle.model.specs.Tlv.{num, attestationType, full, surrogate, register, broken, fieldIn}
+use Rattle.model.specs.Records.{own, keyIds}
+use Rattle.model.specs.Commands.{judge, registerChecks}
+use Rattle.command.specs.Parse.{Placed}
+use Rattle.key_table.specs.Views.{viewTable}
+use Rattle.key_table.proofs.ViewLaws.{length-view}
+use Rattle.decisions.proofs.JudgeLaws.{type-inside, type-is, Admitted, admitted}
+use Rattle.decisions.proofs.register.judge_register.Statement.{statement}
+use Rattle.decisions.proofs.register.judge_register.Tie as tie
+
+unbroken : (c : tie.Else1) → broken register (now (c .before .before .before .before .args .s)) ≡ false
+unbroken c = sym (c .before .before .before .before .pre .0 .broken-is) ∙ c .if1 .left
+
+-- where the attestation type stands
+type-placed : (c : tie.Else1) → let a = c .before .before .before .before .args in Placed (now (a .s)) attestationType (a .f .«attestation_type»)
+type-placed c = c .before .before .before .before .pre .0 .unless-broken (unbroken c) .attestation-type
+
+-- what the test of it gave
+supported : (c : tie.After-is-supported)
+    → let type = num (fieldIn attestationType (now (c .before .before .before .before .before .before .before .before .args .s))) in
+    c .is-supported .result ≡ (eqb type full || eqb type surrogate)
+supported c =
+    let n = c .before .get16 in
+    let u = c .before .before .before .before in
+    rw (type-is _ _ (unbroken u) (type-placed u) (n .result) (n .ensures)) at (c .is-supported .ensures)
+
+-- the first three checks pass
+passed : (c : tie.Else3) → let a = c .before .before .before .before .before .before .before .before .before .args in Admitted (now (a .s)) (a .numbers .verdict)
+passed c =
+    let v = c .before .before .before in
+    record { unbroken = unbroken (v .before .before); user = v .if2 .left; supported = sym (supported (c .before)) ∙ not-false _ (c .if3 .left) }
+
+fresh : (c : tie.Else4)
+    → let a = c .before .before .before .before .before .before .before .before .before .before .before .args in
+    among (now (a .key-id)) (keyIds (viewTable (a .t))) ≡ false
+fresh c = sym (c .before .is-stored .ensures) ∙ c .if4 .left
+
+few : (c : tie.Else5)
+    → let a = c .before .before .before .before .before .before .before .before .before .before .before .before .before .args in
+    leb 8 (length (own (now (a .mixed)) (viewTable (a .t)))) ≡ false
+few c = lt-leb _ _ (rw (c .before .own-count .ensures) at (c .if5 .left))
+
+returns : tie.Need-returns
+unfolding judge registerChecks
+returns c = rw (sym (c .before .before .before .before .pre .0 .broken-is) ∙ c .if1 .taken)
+
+verdict-status-requires : tie.Need-verdict-status-requires
+verdict-status-requires c κs = search needs
+
+returns-2 : tie.Need-returns-2
+unfolding judge registerChecks
+returns-2 c = simp (unbroken (c .before .before .before), ne-eqb _ _ (c .before .if2 .taken), c .verdict-status .ensures)
+
+get16-requires : tie.Need-get16-requires
+get16-requires c κs =
+    let u = c .before .before in
+    type-inside _ _ (unbroken u) (type-placed u)
+
+is-supported-requires : tie.Need-is-supported-requires
+is-supported-requires c κs = search needs
+
+returns-3 : tie.Need-returns-3
+unfolding judge registerChecks
+returns-3 c =
+    let v = c .before .before .before in
+    simp (unbroken (v .before .before), eq-eqb _ _ (v .if2 .left), sym (supported (c .before)) ∙ not-true _ (c .if3 .taken))
+
+is-stored-requires : tie.Need-is-stored-requires
+is-stored-requires c κs = search needs
+
+returns-4 : tie.Need-returns-4
+returns-4 c = sym (admitted _ _ _ _ _ _ _ (passed (c .before .before)) ∙ rw (sym (c .before .is-stored .ensures) ∙ c .if4 .taken))
+
+own-count-requires : tie.Need-own-count-requires
+own-count-requires c κs = search needs
+
+returns-5 : tie.Need-returns-5
+returns-5 c =
+    let d = c .before .before in
+    let n = c .before .own-count .ensures in
+    sym (admitted _ _ _ _ _ _ _ (passed (d .before .before)) ∙ rw (fresh d, le-leb _ _ (rw n at (c .if5 .taken))))
+
+returns-6 : tie.Need-returns-6
+returns-6 c =
+    let d = c .before .before .before .before in
+    sym (admitted _ _ _ _ _ _ _ (passed (d .before .before))
+    ∙ rw (fresh d, few (c .before .before), length-view, le-leb _ _ (c .if6 .taken)))
+
+returns-7 : tie.Need-returns-7
+returns-7 c =
+    let d = c .before .before .before .before in
+    sym (admitted _ _ _ _ _ _ _ (passed (d .before .before))
+    ∙ rw (fresh d, few (c .before .before), length-view, lt-leb _ _ (c .if6 .left)))
+
+pub judge-register-spec : {M : Type 1} → statement M
+judge-register-spec =
+    tie.close
+    (tie.spec
+    returns
+    verdict-status-requires
+    returns-2
+    get16-requires
+    is-supported-requires
+    returns-3
+    is-stored-requires
+    returns-4
+    own-count-requires
+    returns-5
+    returns-6
+    returns-7)

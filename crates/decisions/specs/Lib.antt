@@ -1,0 +1,2 @@
+-- What a command decides, in the words of `model`.
+pub mod Answers

@@ -1,0 +1,67 @@
+use crate::answers::Change;
+use crate::answers::Decision;
+use crate::answers::Judged;
+use crate::statuses::only;
+use command::kinds::Kind;
+use command::parse::Fields;
+use command::parse::fields_of;
+use key_table::lookups::is_own;
+use key_table::records::Table;
+use responses::status::ACCESS_DENIED;
+use responses::status::OK;
+use responses::status::PARAMS_INVALID;
+use tlv::reader::part_of;
+ghost use mathlib.Core.Path.{_≡_};
+ghost use Prim.Native.Nat.{ℕ, _≤_};
+ghost use mathlib.Core.Bool.{not, _||_};
+ghost use mathlib.Core.List.{List, [], _∷_};
+ghost use lib.ListN.{length};
+ghost use Rattle.model.specs.Lists.{empty, among};
+ghost use Rattle.model.specs.Tlv.{deregister, keyIdOrNone, broken, fieldIn};
+ghost use Rattle.model.specs.Records.{own, keyIds};
+ghost use Rattle.model.specs.Commands.{check, judge, decideDeregister, leastOutput};
+ghost use Rattle.command.specs.Parse.{Answers};
+ghost use Rattle.key_table.specs.Views.{viewTable};
+ghost use Rattle.decisions.specs.Answers.{Decided};
+ghost use Rattle.decisions.specs.declared.answers.Judged.the-variants.{Fails, Passes};
+
+// An empty KeyID always passes; any other must be one of the caller's.
+fn judge_deregister(s: &[u8], f: Fields, mixed: &[u8], t: Table) -> Judged
+    requires { ⌜ Answers deregister (now s) f ⌝ }
+    requires { ⌜ t .len ≤ 32 ⌝ }
+    ensures { λ r. ⌜
+        r ≡ judge (check 0x08 (broken deregister (now (s .entry)))
+        ∷ check 0x02 (not (empty (fieldIn keyIdOrNone (now (s .entry))) || among (fieldIn keyIdOrNone (now (s .entry))) (keyIds
+        (own (now (mixed .entry)) (viewTable t))))) ∷ []) Fails Passes ⌝ }
+{
+    if f.broken {
+        return Judged::Fails(PARAMS_INVALID);
+    }
+    let key = f.key_id;
+    if key.start == key.end {
+        return Judged::Passes;
+    }
+    if !is_own(t, mixed, part_of(s, key)) {
+        return Judged::Fails(ACCESS_DENIED);
+    }
+    Judged::Passes
+}
+
+// Deregister: a status, and OK with one record removed or all of the mixed token's.
+pub fn deregister(s: &[u8], mixed: &[u8], t: Table, out: &mut [u8]) -> Decision
+    requires { ⌜ t .len ≤ 32 ⌝ }
+    requires { ⌜ leastOutput ≤ length (now out) ⌝ }
+    ensures { λ r. ⌜
+        ((k : List ℕ) → Decided (now (s .entry)) k (now (mixed .entry)) t (decideDeregister (now (s .entry))
+        (own (now (mixed .entry)) (viewTable t))) (now (out .entry)) (now (out .exit)) r) ⌝ }
+{
+    let f = fields_of(s, Kind::Deregister);
+    let judged = judge_deregister(s, f, mixed, t);
+    match judged {
+        Judged::Fails(status) => only(out, Kind::Deregister, status, Change::Keep),
+        Judged::Passes => {
+            let key = f.key_id;
+            only(out, Kind::Deregister, OK, Change::Remove(key))
+        }
+    }
+}

@@ -1,0 +1,128 @@
+use crate::answers::Answer;
+use crate::answers::Change;
+use crate::answers::Decision;
+use crate::answers::Judged;
+use crate::statuses::only;
+use crate::statuses::verdict_status;
+use command::kinds::Kind;
+use command::parse::Fields;
+use command::parse::fields_of;
+use fields::tags;
+use key_table::lookups::is_stored;
+use key_table::lookups::own_count;
+use key_table::records::Table;
+use key_table::rules::MAX_OWN;
+use key_table::rules::MAX_RECORDS;
+use responses::drafts::put_krd;
+use responses::lent::Numbers;
+use responses::status::ATTESTATION_NOT_SUPPORTED;
+use responses::status::ERR_UNKNOWN;
+use responses::status::INSUFFICIENT_RESOURCES;
+use responses::status::PARAMS_INVALID;
+use tlv::numbers::get16;
+use tlv::reader::part_of;
+ghost use mathlib.Core.Path.{_≡_};
+ghost use Prim.Native.Nat.{_≤_};
+ghost use mathlib.Core.Bool.{_||_};
+ghost use mathlib.Core.List.{[]};
+ghost use lib.Dec.{leb, eqb};
+ghost use lib.ListN.{length};
+ghost use Rattle.model.specs.Lists.{among};
+ghost use Rattle.model.specs.Tlv.{register, full, surrogate};
+ghost use Rattle.model.specs.Records.{own, keyIds, maxRecords};
+ghost use Rattle.model.specs.Commands.{judge, registerChecks, decideRegister, leastOutput};
+ghost use Rattle.command.specs.Parse.{Answers};
+ghost use Rattle.key_table.specs.Views.{viewTable};
+ghost use Rattle.responses.specs.Lent.{lentRegister};
+ghost use Rattle.decisions.specs.Answers.{Decided};
+ghost use Rattle.decisions.specs.declared.answers.Judged.the-variants.{Fails, Passes};
+
+// Whether an attestation type is one of the two.
+fn is_supported(attestation: usize) -> bool
+    ensures { λ r. ⌜ r ≡ (eqb attestation full || eqb attestation surrogate) ⌝ }
+{
+    if attestation == tags::BASIC_FULL {
+        return true;
+    }
+    attestation == tags::BASIC_SURROGATE
+}
+
+// Register's statuses in their order.
+fn judge_register(
+    s: &[u8],
+    f: Fields,
+    numbers: Numbers,
+    mixed: &[u8],
+    key_id: &[u8],
+    t: Table,
+) -> Judged
+    requires { ⌜ Answers register (now s) f ⌝ }
+    requires { ⌜ t .len ≤ 32 ⌝ }
+    ensures { λ r. ⌜
+        r ≡ judge (registerChecks (now (s .entry)) (lentRegister [] numbers (now (mixed .entry)) (now («key_id» .entry)) [])
+        (own (now (mixed .entry)) (viewTable t))
+        (among (now («key_id» .entry)) (keyIds (viewTable t))) (leb maxRecords (length (viewTable t)))) Fails Passes ⌝ }
+{
+    if f.broken {
+        return Judged::Fails(PARAMS_INVALID);
+    }
+    if numbers.verdict != 0 {
+        return Judged::Fails(verdict_status(numbers.verdict));
+    }
+    if !is_supported(get16(s, f.attestation_type.start)) {
+        return Judged::Fails(ATTESTATION_NOT_SUPPORTED);
+    }
+    if is_stored(t, key_id) {
+        return Judged::Fails(ERR_UNKNOWN);
+    }
+    if MAX_OWN <= own_count(t, mixed) {
+        return Judged::Fails(INSUFFICIENT_RESOURCES);
+    }
+    if MAX_RECORDS <= t.len {
+        return Judged::Fails(INSUFFICIENT_RESOURCES);
+    }
+    Judged::Passes
+}
+
+// Register: a status, or the draft and a record more.
+pub fn register(
+    s: &[u8],
+    aaid: &[u8],
+    numbers: Numbers,
+    mixed: &[u8],
+    key_id: &[u8],
+    public_key: &[u8],
+    t: Table,
+    out: &mut [u8],
+) -> Decision
+    requires { ⌜ (length (now aaid) ≡ 9) × (length (now mixed) ≡ 32) × (length (now «key_id») ≡ 32) × (length (now «public_key») ≤ 512) ⌝ }
+    requires { ⌜ t .len ≤ 32 ⌝ }
+    requires { ⌜ leastOutput ≤ length (now out) ⌝ }
+    ensures { λ r. ⌜
+        Decided (now (s .entry)) (now («key_id» .entry)) (now (mixed .entry)) t (decideRegister (now (s .entry))
+        (lentRegister (now (aaid .entry)) numbers (now (mixed .entry)) (now («key_id» .entry)) (now («public_key» .entry)))
+        (own (now (mixed .entry)) (viewTable t))
+        (among (now («key_id» .entry)) (keyIds (viewTable t))) (leb maxRecords (length (viewTable t))))
+        (now (out .entry)) (now (out .exit)) r ⌝ }
+{
+    let f = fields_of(s, Kind::Register);
+    let judged = judge_register(s, f, numbers, mixed, key_id, t);
+    match judged {
+        Judged::Fails(status) => only(out, Kind::Register, status, Change::Keep),
+        Judged::Passes => {
+            let n = put_krd(
+                out,
+                aaid,
+                numbers,
+                part_of(s, f.challenge_hash),
+                key_id,
+                public_key,
+            );
+            let name = f.username;
+            Decision {
+                answer: Answer::Draft(n),
+                change: Change::Add(name),
+            }
+        }
+    }
+}

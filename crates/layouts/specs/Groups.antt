@@ -1,0 +1,30 @@
+-- Which layout of `model` each of the code's groups is.
+use Prim.Native.Nat.{ℕ}
+use mathlib.Core.Bool.{true, false}
+use Rattle.model.specs.Layouts.{Layout, end, field, group}
+use Rattle.model.specs.Commands.{keyRegistrationData, signedData, nameRows}
+use Rattle.layouts.specs.declared.Group.{Group}
+use Rattle.layouts.specs.declared.Group.the-variants.{Krd, SignedData, SignedContent, Pair}
+
+abbrev pub layoutOf : Group → Layout
+layoutOf Krd = keyRegistrationData end
+layoutOf SignedData = signedData false end
+layoutOf SignedContent = signedData true end
+layoutOf Pair = nameRows 1
+
+-- the tag and the inside of a layout that is one group
+abbrev tagIn : Layout → ℕ
+tagIn end = 0
+tagIn (field f l) = 0
+tagIn (group t inner l) = t
+
+abbrev insideIn : Layout → Layout
+insideIn end = end
+insideIn (field f l) = end
+insideIn (group t inner l) = inner
+
+abbrev pub groupTag : Group → ℕ
+groupTag g = tagIn (layoutOf g)
+
+abbrev pub groupInside : Group → Layout
+groupInside g = insideIn (layoutOf g)

@@ -1,0 +1,3 @@
+-- Structures read from place to place.
+pub mod Places
+pub mod Groups

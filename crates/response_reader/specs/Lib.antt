@@ -1,0 +1,4 @@
+-- What the response reader gives, in the words of `model`.
+pub mod Met
+pub mod Responses
+pub mod Readings

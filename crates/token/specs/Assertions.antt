@@ -1,0 +1,53 @@
+-- All that the firmware gets back from a completion and from the two calls of the reader. After a refusal nothing that it lent has changed.
+use Prim.Native.Nat.{ℕ}
+use mathlib.Core.List.{List}
+use lib.ListN.{length}
+use Rattle.model.specs.Commands.{Result, refused, gave}
+use Rattle.model.specs.Complete.{outputOf}
+use Rattle.model.specs.Reader.{Reading}
+use Rattle.response_reader.specs.Readings.{column}
+
+-- a completion: the refusal number, or 0; the length and the output that it lent
+pub record ReturnedCompletion : Type 0 where
+  pub code : ℕ
+  pub responseLength : ℕ
+  pub response : List ℕ
+
+abbrev pub wrote : ℕ → ℕ → List ℕ → ReturnedCompletion
+wrote c n s = record { code = c; responseLength = n; response = s }
+
+unfoldable pub completedAs : Result (List ℕ) → ReturnedCompletion → ReturnedCompletion
+completedAs (refused n) b = wrote n (b .responseLength) (b .response)
+completedAs (gave s) b = wrote 0 (length s) (outputOf (gave s) (b .response))
+
+-- the signed structure: the refusal number, or 0; its place and its length
+pub record ReturnedPart : Type 0 where
+  pub code : ℕ
+  pub place : ℕ
+  pub size : ℕ
+
+abbrev pub points : ℕ → ℕ → ℕ → ReturnedPart
+points c p n = record { code = c; place = p; size = n }
+
+unfoldable pub pointed : Result Reading → ReturnedPart → ReturnedPart
+pointed (refused n) b = points n (b .place) (b .size)
+pointed (gave r) b = points 0 (r .signed .place) (r .signed .size)
+
+-- the fields: the refusal number, or 0; the response tag, the status, the number of fields, and of each its tag, its value's place and length
+pub record ReturnedFields : Type 0 where
+  pub code : ℕ
+  pub tag : ℕ
+  pub status : ℕ
+  pub count : ℕ
+  pub tags : List ℕ
+  pub places : List ℕ
+  pub lengths : List ℕ
+
+abbrev pub lists : (code tag status count : ℕ) → (tags places lengths : List ℕ) → ReturnedFields
+lists c t u n ts ps ls = record { code = c; tag = t; status = u; count = n; tags = ts; places = ps; lengths = ls }
+
+unfoldable pub listed : Result Reading → ReturnedFields → ReturnedFields
+listed (refused n) b = lists n (b .tag) (b .status) (b .count) (b .tags) (b .places) (b .lengths)
+listed (gave r) b =
+    lists 0 (r .tag) (r .status) (length (r .fields)) (column (λ p. p .tag) (r .fields)) (column (λ p. p .place) (r .fields))
+    (column (λ p. p .size) (r .fields))

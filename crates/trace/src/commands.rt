@@ -1,0 +1,138 @@
+// Calls of `uaf_command`.
+use script::slots::AAID;
+use script::slots::COMMAND;
+use script::slots::DISPLAY;
+use script::slots::FILL;
+use script::slots::HASH;
+use script::slots::KEY_ALGORITHM;
+use script::slots::KEY_ID;
+use script::slots::METADATA;
+use script::slots::MIXED;
+use script::slots::MOST;
+use script::slots::NO_ANSWER;
+use script::slots::NONCE;
+use script::slots::PUBLIC_KEY;
+use script::slots::RESPONSE_LENGTH;
+use script::slots::SIGNATURE_ALGORITHM;
+use script::slots::TABLE;
+use script::slots::TABLE_LENGTH;
+use script::slots::UNSET;
+use script::slots::VERDICT;
+use script::slots::VERSION;
+use script::slots::arg;
+use script::slots::number;
+use script::slots::store;
+use script::text::adler;
+use script::text::write_next;
+use script::text::write_written;
+use token::uaf_command;
+
+// What a call gave: the refusal number, or 0, and the three numbers.
+struct Given {
+    code: u32,
+    answer: u32,
+    response_len: usize,
+    table_len: usize,
+}
+
+fn call(mem: &[u8], response: &mut [u8], table_out: &mut [u8]) -> Given {
+    let version = number(mem, VERSION) as u16;
+    let signature_algorithm = number(mem, SIGNATURE_ALGORITHM) as u16;
+    let key_algorithm = number(mem, KEY_ALGORITHM) as u16;
+    let verdict = (number(mem, VERDICT) % 256) as u8;
+    let display = (number(mem, DISPLAY) % 256) as u8;
+    let mut answer = NO_ANSWER;
+    let mut response_len = UNSET;
+    let mut table_len = UNSET;
+    let code = uaf_command(
+        arg(mem, COMMAND),
+        arg(mem, AAID),
+        version,
+        signature_algorithm,
+        key_algorithm,
+        arg(mem, METADATA),
+        verdict,
+        display,
+        arg(mem, MIXED),
+        arg(mem, KEY_ID),
+        arg(mem, PUBLIC_KEY),
+        arg(mem, NONCE),
+        arg(mem, HASH),
+        arg(mem, TABLE),
+        response,
+        table_out,
+        &mut answer,
+        &mut response_len,
+        &mut table_len,
+    );
+    Given {
+        code,
+        answer,
+        response_len,
+        table_len,
+    }
+}
+
+// Says what a refused call left: the numbers, and a sum of each output.
+fn tell_refusal(g: Given, response: &[u8], table_out: &[u8]) {
+    io::write_all(1, b"refusal");
+    write_next(g.code as usize);
+    write_next(g.answer as usize);
+    write_next(g.response_len);
+    write_next(g.table_len);
+    write_next(adler(response));
+    write_next(adler(table_out));
+}
+
+fn write_kind(answer: u32) {
+    match answer {
+        0 => io::write_all(1, b"response"),
+        1 => io::write_all(1, b"draft"),
+        _ => io::write_all(1, b"neither"),
+    }
+    ;
+}
+
+// Says what any other wrote.
+fn tell_answer(g: Given, response: &[u8], table_out: &[u8], dump: bool) {
+    write_kind(g.answer);
+    write_written(response, g.response_len, true);
+    io::write_all(1, b" table");
+    write_written(table_out, g.table_len, dump);
+}
+
+// Writes a call's line.
+fn tell(name: &[u8], g: Given, response: &[u8], table_out: &[u8], dump: bool) {
+    io::write_all(1, name);
+    io::write_all(1, b": ");
+    if g.code != 0 {
+        tell_refusal(g, response, table_out);
+    } else {
+        tell_answer(g, response, table_out, dump);
+    }
+    io::write_all(1, b"\n");
+}
+
+// Runs a call, writes its line and keeps the table left. The outputs are the first bytes of two stretches.
+fn run_in(name: &[u8], dump: bool, mem: &mut [u8], response: &mut [u8], table_out: &mut [u8]) {
+    let n = number(mem, RESPONSE_LENGTH);
+    let m = number(mem, TABLE_LENGTH);
+    if response.len() < n {
+        return;
+    }
+    if table_out.len() < m {
+        return;
+    }
+    let g = call(mem, &mut response[0..n], &mut table_out[0..m]);
+    tell(name, g, &response[0..n], &table_out[0..m], dump);
+    if g.code != 0 {
+        return;
+    }
+    store(&table_out[0..m], g.table_len, TABLE, mem);
+}
+
+pub fn run(name: &[u8], dump: bool, mem: &mut [u8]) {
+    let mut response = [FILL; MOST];
+    let mut table_out = [FILL; MOST];
+    run_in(name, dump, mem, &mut response, &mut table_out);
+}
