@@ -1,5 +1,5 @@
+use crate::shapes::NO_RESPONSE;
 use crate::shapes::is_response;
-use crate::signed::NO_RESPONSE;
 use crate::signed::holds_others;
 use tlv::numbers::get16;
 use tlv::reader::Head;
@@ -80,12 +80,7 @@ fn no_reading() -> Reading
     ensures { λ r. ⌜ r ≡ readingOf (refused 5) ⌝ }
 {
     let none = [0usize; MOST_FIELDS];
-    let parts = Parts {
-        tags: none,
-        places: none,
-        lengths: none,
-        len: 0,
-    };
+    let parts = together(none, none, none, 0);
     Reading {
         refusal: NO_RESPONSE,
         tag: 0,

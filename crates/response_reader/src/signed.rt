@@ -1,3 +1,4 @@
+use crate::shapes::NO_RESPONSE;
 use crate::shapes::is_response;
 use fields::tags;
 use tlv::reader::COMPOSITE;
@@ -53,9 +54,6 @@ pub fn signed_in(s: &[u8]) -> Span
         }
     }
 }
-
-// The number of the refusal of bytes that are no response.
-pub const NO_RESPONSE: u32 = 5;
 
 // The reader's first call: the signed structure as a part of the caller's own bytes, and beside it 0 or the refusal's number.
 pub fn signed_part<'a, 'b>(s: &'a [u8], refusal: &'b mut u32) -> &'a [u8]
