@@ -19,7 +19,7 @@ use key_table::changes::set_count;
 use key_table::records::Table;
 use key_table::rules::table_ok;
 use responses::lent::Numbers;
-use tlv::reader::part_of;
+use tlv::heads::part_of;
 ghost use mathlib.Core.Path.{_≡_};
 ghost use Prim.Native.Nat.{_≤_};
 ghost use mathlib.Core.Bool.{true};

@@ -15,8 +15,8 @@ use Rattle.model.specs.Tlv.{Tlv, tlvs, isRun, Field, keyHandle, tagOf, maxComma
 use Rattle.model.proofs.Basics.{split, clash, and-left, and-right}
 use Rattle.model.proofs.Fields.{unbroken, given-times}
 use Rattle.tlv.specs.Spans.{parts, noSpan}
-use Rattle.tlv.specs.declared.reader.Span.{Span}
-use Rattle.tlv.specs.declared.reader.Spans.{Spans}
+use Rattle.tlv.specs.declared.heads.Span.{Span}
+use Rattle.tlv.specs.declared.heads.Spans.{Spans}
 use Rattle.tlv.proofs.HeadLaws.{fills-short}
 use Rattle.command.specs.Children.{childPasses, runFrom, maxValues, ValuesAre}
 use Rattle.command.specs.Slots.{slots, slotField, SlotsAre, givenOk}

@@ -12,7 +12,7 @@ use Rattle.model.specs.Lists.{given, select}
 use Rattle.model.specs.Tlv.{Tlv, tlv, tlvs}
 use Rattle.model.proofs.Basics.{clash}
 use Rattle.tlv.specs.Heads.{headAt, between}
-use Rattle.tlv.specs.declared.reader.Head.the-variants.{Bad, End}
+use Rattle.tlv.specs.declared.heads.Head.the-variants.{Bad, End}
 use Rattle.tlv.proofs.HeadLaws.{IsTlv, run-end, run-bad, run-tlv}
 use Rattle.command.specs.Children.{runFrom}
 

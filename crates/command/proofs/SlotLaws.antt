@@ -14,8 +14,8 @@ use Rattle.model.specs.Tlv.{tagOf}
 use Rattle.model.proofs.Basics.{split, and-left, and-right}
 use Rattle.tlv.specs.Heads.{headAt, between, part}
 use Rattle.tlv.specs.Spans.{span, Inside, noSpan}
-use Rattle.tlv.specs.declared.reader.Span.{Span}
-use Rattle.tlv.specs.declared.reader.Head.the-variants.{End}
+use Rattle.tlv.specs.declared.heads.Span.{Span}
+use Rattle.tlv.specs.declared.heads.Head.the-variants.{End}
 use Rattle.tlv.proofs.HeadLaws.{IsTlv}
 use Rattle.command.specs.Children.{runFrom}
 use Rattle.command.specs.Slots.{slots, slotField, slotOf, SlotIs, SlotsAre}

@@ -13,8 +13,8 @@ use Rattle.model.specs.Tlv.{Field, tagOf, valuesOf}
 use Rattle.model.proofs.Basics.{split}
 use Rattle.tlv.specs.Heads.{headAt, part}
 use Rattle.tlv.specs.Spans.{span, Inside, noSpan}
-use Rattle.tlv.specs.declared.reader.Span.{Span}
-use Rattle.tlv.specs.declared.reader.Head.the-variants.{End}
+use Rattle.tlv.specs.declared.heads.Span.{Span}
+use Rattle.tlv.specs.declared.heads.Head.the-variants.{End}
 use Rattle.tlv.proofs.HeadLaws.{IsTlv}
 use Rattle.command.specs.Children.{runFrom, maxValues, ValuesAre}
 use Rattle.command.proofs.RunLaws.{RunAt, valuesWith, run-empty, run-next, values-same, values-other}

@@ -7,8 +7,8 @@ use Rattle.model.specs.Tlv as model
 use Rattle.model.specs.Tlv.{broken, fieldsIn, fieldIn}
 use Rattle.tlv.specs.Heads.{part}
 use Rattle.tlv.specs.Spans.{noSpan, parts, Inside, AllInside}
-use Rattle.tlv.specs.declared.reader.Span.{Span}
-use Rattle.tlv.specs.declared.reader.Spans.{Spans}
+use Rattle.tlv.specs.declared.heads.Span.{Span}
+use Rattle.tlv.specs.declared.heads.Spans.{Spans}
 use Rattle.command.specs.declared.parse.Fields.{Fields}
 
 -- a part of the command is the field's value; where an empty value's part stands is open

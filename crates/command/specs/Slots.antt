@@ -10,7 +10,7 @@ use Rattle.model.specs.Tlv as model
 use Rattle.model.specs.Tlv.{tagOf, fieldsOf, listed, valuesOf}
 use Rattle.tlv.specs.Heads.{part}
 use Rattle.tlv.specs.Spans.{Inside, noSpan}
-use Rattle.tlv.specs.declared.reader.Span.{Span}
+use Rattle.tlv.specs.declared.heads.Span.{Span}
 use Rattle.command.specs.Children.{runFrom}
 use Rattle.command.specs.declared.kinds.Times.{Times}
 use Rattle.command.specs.declared.children.Slots.{Slots}

@@ -22,7 +22,7 @@ use Rattle.tlv.specs.Heads.{part}
 use Rattle.tlv.specs.Spans.{Inside}
 use Rattle.tlv.specs.Writing.{Wrote}
 use Rattle.tlv.proofs.WriteLaws.{front}
-use Rattle.tlv.specs.declared.reader.Span.{Span}
+use Rattle.tlv.specs.declared.heads.Span.{Span}
 use Rattle.command.specs.Parse.{Placed, FieldsPlaced, Answers}
 use Rattle.command.specs.declared.parse.Fields.{Fields}
 use Rattle.key_table.specs.Views.{viewTable}

@@ -15,7 +15,7 @@ use Rattle.model.specs.Commands.{Lent, profileOk, judge, verdictStatus, display
 use Rattle.model.proofs.Fields.{field-fits}
 use Rattle.model.proofs.LayoutLaws.{fits-least, fits-most}
 use Rattle.tlv.specs.Numbers.{NumberAt}
-use Rattle.tlv.specs.declared.reader.Span.{Span}
+use Rattle.tlv.specs.declared.heads.Span.{Span}
 use Rattle.tlv.proofs.NumberLaws.{num-between}
 use Rattle.tlv.proofs.HeadLaws.{length-part, part-empty}
 use Rattle.command.specs.Parse.{Placed}

@@ -22,7 +22,7 @@ use Rattle.model.proofs.Rules.{obeys-rules}
 use Rattle.tlv.specs.Heads.{part}
 use Rattle.tlv.specs.Spans.{parts}
 use Rattle.tlv.specs.Writing.{Wrote}
-use Rattle.tlv.specs.declared.reader.Span.{Span}
+use Rattle.tlv.specs.declared.heads.Span.{Span}
 use Rattle.tlv.proofs.HeadLaws.{part-empty}
 use Rattle.command.specs.Parse.{Placed, FieldsPlaced, Answers}
 use Rattle.command.specs.declared.parse.Fields.{Fields}

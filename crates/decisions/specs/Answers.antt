@@ -12,7 +12,7 @@ use Rattle.model.specs.Commands as model
 use Rattle.model.specs.Commands.{statusOnly, bytesOf, over}
 use Rattle.tlv.specs.Heads.{part}
 use Rattle.tlv.specs.Spans.{Inside}
-use Rattle.tlv.specs.declared.reader.Span.{Span}
+use Rattle.tlv.specs.declared.heads.Span.{Span}
 use Rattle.key_table.specs.Views.{viewRecord, viewTable, noRecord}
 use Rattle.key_table.specs.Changes.{removal}
 use Rattle.key_table.specs.declared.records.Record.{Record}

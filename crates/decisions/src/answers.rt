@@ -1,4 +1,4 @@
-use tlv::reader::Span;
+use tlv::heads::Span;
 
 // What was written into the response output: a response or a draft, of this length.
 pub enum Answer {

@@ -10,7 +10,7 @@ use key_table::records::Table;
 use responses::status::ACCESS_DENIED;
 use responses::status::OK;
 use responses::status::PARAMS_INVALID;
-use tlv::reader::part_of;
+use tlv::heads::part_of;
 ghost use mathlib.Core.Path.{_≡_};
 ghost use Prim.Native.Nat.{ℕ, _≤_};
 ghost use mathlib.Core.Bool.{not, _||_};

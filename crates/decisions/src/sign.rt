@@ -17,7 +17,7 @@ use responses::names::put_names;
 use responses::status::ACCESS_DENIED;
 use responses::status::ERR_UNKNOWN;
 use responses::status::PARAMS_INVALID;
-use tlv::reader::part_of;
+use tlv::heads::part_of;
 ghost use mathlib.Core.Path.{_≡_};
 ghost use Prim.Native.Nat.{ℕ, _≤_};
 ghost use mathlib.Core.Bool.{true, false, not, _&&_};

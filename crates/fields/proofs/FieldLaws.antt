@@ -16,9 +16,9 @@ use Rattle.model.proofs.Basics.{and-left, and-right}
 use Rattle.model.proofs.LayoutLaws.{fits-least, fits-most}
 use Rattle.tlv.specs.Heads.{headAt, between, part}
 use Rattle.tlv.specs.Spans.{span, Inside}
-use Rattle.tlv.specs.declared.reader.Span.{Span}
-use Rattle.tlv.specs.declared.reader.Head.{Head}
-use Rattle.tlv.specs.declared.reader.Head.the-variants.{Tlv as Found, Bad, End}
+use Rattle.tlv.specs.declared.heads.Span.{Span}
+use Rattle.tlv.specs.declared.heads.Head.{Head}
+use Rattle.tlv.specs.declared.heads.Head.the-variants.{Tlv as Found, Bad, End}
 use Rattle.tlv.proofs.HeadLaws.{IsTlv, tlv-is, run-end, run-bad, run-tlv, length-part}
 use Rattle.fields.specs.Fields.{named, allows, allowedFor, ruleWith, RuleIs, fieldIn, fieldAt}
 use Rattle.fields.specs.declared.Rule.{Rule}

@@ -11,8 +11,8 @@ use Rattle.model.specs.Tlv.{num, le, full, surrogate, textPlain, uafV1Tlv, rule
 use Rattle.model.specs.Commands.{statuses}
 use Rattle.tlv.specs.Heads.{headAt, between}
 use Rattle.tlv.specs.Spans.{span}
-use Rattle.tlv.specs.declared.reader.Head.{Head}
-use Rattle.tlv.specs.declared.reader.Head.the-variants.{Tlv, Bad, End}
+use Rattle.tlv.specs.declared.heads.Head.{Head}
+use Rattle.tlv.specs.declared.heads.Head.the-variants.{Tlv, Bad, End}
 use Rattle.fields.specs.declared.Allowed.{Allowed}
 use Rattle.fields.specs.declared.Allowed.the-variants.{Any, Zero, EmptyOrKeyId, One, TextPlain, UafV1Tlv, Full, Surrogate, ZeroCounts, NotZero, Mode1, Mode2, Ok, OfGetInfo, OfRegister, OfSign, OfDeregister, OfOpenSettings}
 use Rattle.fields.specs.declared.Rule.{Rule}

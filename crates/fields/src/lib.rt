@@ -3,9 +3,9 @@
 pub mod tags;
 
 use tlv::bytes::same;
-use tlv::reader::Head;
-use tlv::reader::Span;
-use tlv::reader::header;
+use tlv::heads::Head;
+use tlv::heads::Span;
+use tlv::walk::header;
 ghost use mathlib.Core.Path.{_≡_};
 ghost use mathlib.Core.List.{map};
 ghost use lib.ListN.{getD};

@@ -17,7 +17,7 @@ use Rattle.model.specs.Commands.{chosen}
 use Rattle.model.proofs.Basics.{split, eqBytes-sym, select-both}
 use Rattle.tlv.specs.Heads.{part}
 use Rattle.tlv.specs.Spans.{span, noSpan, parts, AllInside}
-use Rattle.tlv.specs.declared.reader.Spans.{Spans}
+use Rattle.tlv.specs.declared.heads.Spans.{Spans}
 use Rattle.tlv.proofs.HeadLaws.{empty-size}
 use Rattle.columns.specs.Columns.{rows, row, times}
 use Rattle.columns.proofs.ColumnLaws.{rows-at, rows-end}

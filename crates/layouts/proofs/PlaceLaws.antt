@@ -14,8 +14,8 @@ use Rattle.model.specs.Tlv.{Tlv, tlvs, isRun, Field, tagOf, fits}
 use Rattle.model.specs.Layouts.{Layout, end, field, group, matches, reads}
 use Rattle.model.proofs.Basics.{split, and-left, and-right}
 use Rattle.tlv.specs.Heads.{headAt, between}
-use Rattle.tlv.specs.declared.reader.Head.{Head}
-use Rattle.tlv.specs.declared.reader.Head.the-variants.{Tlv as Found, Bad, End}
+use Rattle.tlv.specs.declared.heads.Head.{Head}
+use Rattle.tlv.specs.declared.heads.Head.the-variants.{Tlv as Found, Bad, End}
 use Rattle.tlv.proofs.HeadLaws.{IsTlv, tlv-is, bad-is, end-is, run-end, run-bad, run-tlv}
 use Rattle.fields.specs.Fields.{fieldIn, fieldAt}
 use Rattle.fields.specs.declared.Found.{Found as FieldFound}

@@ -7,8 +7,8 @@ use lib.Dec.{leb, eqb}
 use Rattle.model.specs.Tlv.{Field}
 use Rattle.model.specs.Layouts.{Layout, reads}
 use Rattle.tlv.specs.Heads.{headAt, between}
-use Rattle.tlv.specs.declared.reader.Head.{Head}
-use Rattle.tlv.specs.declared.reader.Head.the-variants.{Tlv, Bad, End}
+use Rattle.tlv.specs.declared.heads.Head.{Head}
+use Rattle.tlv.specs.declared.heads.Head.the-variants.{Tlv, Bad, End}
 use Rattle.fields.specs.Fields.{fieldAt}
 use Rattle.fields.specs.declared.Found.{Found}
 use Rattle.fields.specs.declared.Found.the-variants.{At, Missing}

@@ -16,7 +16,7 @@ use Rattle.model.proofs.Basics.{split, clash}
 use Rattle.model.proofs.PartLaws.{honest}
 use Rattle.tlv.specs.Numbers.{numAt}
 use Rattle.tlv.specs.Heads.{headAt}
-use Rattle.tlv.specs.declared.reader.Head.the-variants.{Bad, End}
+use Rattle.tlv.specs.declared.heads.Head.the-variants.{Bad, End}
 use Rattle.tlv.proofs.HeadLaws.{IsTlv, bad-is, end-is}
 use Rattle.response_reader.specs.Met.{partAt, metPast, met}
 use Rattle.layouts.proofs.SizeLaws.{Front, Layered, nothing, one, many, layered, length-front, parts-front, parts-nothing, honest-field, honest-group}

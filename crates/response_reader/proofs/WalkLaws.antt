@@ -21,7 +21,7 @@ use Rattle.model.proofs.LayoutWritten.{all-member, any-found}
 use Rattle.tlv.specs.Numbers.{numAt, NumberAt}
 use Rattle.tlv.specs.Heads.{part}
 use Rattle.tlv.specs.Spans.{span, Inside}
-use Rattle.tlv.specs.declared.reader.Span.{Span}
+use Rattle.tlv.specs.declared.heads.Span.{Span}
 use Rattle.tlv.proofs.HeadLaws.{IsTlv}
 use Rattle.columns.specs.Firsts.{firsts}
 use Rattle.layouts.proofs.SizeLaws.{least, reads-least, fields-number}

@@ -8,7 +8,7 @@ use Rattle.model.specs.Lists.{select, first}
 use Rattle.model.specs.Tlv.{num}
 use Rattle.model.specs.Reader.{Part, holds, Stretch, stretch, isSigned}
 use Rattle.tlv.specs.Spans.{span}
-use Rattle.tlv.specs.declared.reader.Span.{Span}
+use Rattle.tlv.specs.declared.heads.Span.{Span}
 
 abbrev pub partAt : ℕ → ℕ → ℕ → Part
 partAt t at n = record { tag = t; place = at; size = n }

@@ -1,9 +1,9 @@
 use crate::shapes::NO_RESPONSE;
 use crate::shapes::is_response;
 use crate::signed::holds_others;
+use tlv::heads::Head;
 use tlv::numbers::get16;
-use tlv::reader::Head;
-use tlv::reader::header;
+use tlv::walk::header;
 ghost use mathlib.Core.Path.{_≡_};
 ghost use Rattle.model.specs.Commands.{refused};
 ghost use Rattle.model.specs.Reader.{readResponse};

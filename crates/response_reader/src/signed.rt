@@ -1,11 +1,11 @@
 use crate::shapes::NO_RESPONSE;
 use crate::shapes::is_response;
 use fields::tags;
-use tlv::reader::COMPOSITE;
-use tlv::reader::Head;
-use tlv::reader::Span;
-use tlv::reader::header;
-use tlv::reader::part_of;
+use tlv::heads::COMPOSITE;
+use tlv::heads::Head;
+use tlv::heads::Span;
+use tlv::heads::part_of;
+use tlv::walk::header;
 ghost use mathlib.Core.Path.{_≡_};
 ghost use Rattle.model.specs.Reader.{holds, isSigned, readResponse};
 ghost use Rattle.response_reader.specs.Met.{signedMet};

@@ -17,8 +17,8 @@ use Rattle.model.specs.Records.{maxRecords, tableOk, pairTag, storedRecord, sto
 use Rattle.model.proofs.Basics.{split}
 use Rattle.tlv.specs.Numbers.{numAt}
 use Rattle.tlv.specs.Heads.{headAt, between, part}
-use Rattle.tlv.specs.declared.reader.Span.{Span}
-use Rattle.tlv.specs.declared.reader.Head.the-variants.{Bad, End}
+use Rattle.tlv.specs.declared.heads.Span.{Span}
+use Rattle.tlv.specs.declared.heads.Head.the-variants.{Bad, End}
 use Rattle.tlv.proofs.NumberLaws.{num-between}
 use Rattle.tlv.proofs.HeadLaws.{IsTlv, run-end, run-bad, run-tlv, length-part}
 use Rattle.fields.specs.Fields.{fieldAt}

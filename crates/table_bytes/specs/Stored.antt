@@ -12,7 +12,7 @@ use Rattle.model.specs.Records.{pairTag, storedRecord, storedAs, tableOk}
 use Rattle.tlv.specs.Numbers.{numAt}
 use Rattle.tlv.specs.Heads.{part}
 use Rattle.tlv.specs.Spans.{Inside}
-use Rattle.tlv.specs.declared.reader.Span.{Span}
+use Rattle.tlv.specs.declared.heads.Span.{Span}
 use Rattle.key_table.specs.Views.{entry, viewRecord, viewTable, TidyRow, Tidy}
 use Rattle.table_bytes.specs.declared.stored.Row.{Row}
 use Rattle.table_bytes.specs.declared.stored.Loaded.{Loaded}

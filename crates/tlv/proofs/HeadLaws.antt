@@ -16,8 +16,8 @@ use Rattle.model.proofs.Basics.{split}
 use Rattle.tlv.specs.Numbers.{numAt}
 use Rattle.tlv.specs.Heads.{headAt, between, part}
 use Rattle.tlv.specs.Spans.{Inside}
-use Rattle.tlv.specs.declared.reader.Span.{Span}
-use Rattle.tlv.specs.declared.reader.Head.the-variants.{Tlv as Found, Bad, End}
+use Rattle.tlv.specs.declared.heads.Span.{Span}
+use Rattle.tlv.specs.declared.heads.Head.the-variants.{Tlv as Found, Bad, End}
 
 -- ---- what the bytes at a place make of the header
 

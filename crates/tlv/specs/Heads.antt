@@ -5,9 +5,9 @@ use mathlib.Core.List.{List}
 use lib.ListN.{length, take, drop}
 use lib.Dec.{leb}
 use Rattle.tlv.specs.Numbers.{numAt}
-use Rattle.tlv.specs.declared.reader.Span.{Span}
-use Rattle.tlv.specs.declared.reader.Head.{Head}
-use Rattle.tlv.specs.declared.reader.Head.the-variants.{Tlv, Bad, End}
+use Rattle.tlv.specs.declared.heads.Span.{Span}
+use Rattle.tlv.specs.declared.heads.Head.{Head}
+use Rattle.tlv.specs.declared.heads.Head.the-variants.{Tlv, Bad, End}
 
 -- past the end: End; a header whose value ends within the stretch: Tlv; else Bad
 unfoldable pub headAt : List ℕ → ℕ → Head

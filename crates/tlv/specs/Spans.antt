@@ -3,8 +3,8 @@ use Prim.Native.Nat.{ℕ, _≤_, _<_}
 use mathlib.Core.List.{List, map}
 use lib.ListN.{length, take, getD}
 use Rattle.tlv.specs.Heads.{part}
-use Rattle.tlv.specs.declared.reader.Span.{Span}
-use Rattle.tlv.specs.declared.reader.Spans.{Spans}
+use Rattle.tlv.specs.declared.heads.Span.{Span}
+use Rattle.tlv.specs.declared.heads.Spans.{Spans}
 
 abbrev pub span : ℕ → ℕ → Span
 span start end = record { start = start; end = end }

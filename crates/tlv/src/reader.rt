@@ -1,68 +1,9 @@
+use crate::heads::COMPOSITE;
+use crate::heads::Head;
 use crate::numbers::get16;
+use crate::walk::header;
 ghost use mathlib.Core.Path.{_≡_};
 ghost use Rattle.model.specs.Tlv.{wellFormed, fills};
-ghost use Rattle.tlv.specs.Heads.{headAt, part};
-ghost use Rattle.tlv.specs.Spans.{Inside};
-
-// A part of a stretch, from a place up to another.
-pub struct Span {
-    pub start: usize,
-    pub end: usize,
-}
-
-// At most eight of them.
-pub struct Spans {
-    pub at: [Span; 8],
-    pub len: usize,
-}
-
-// That part of a stretch.
-pub fn part_of(s: &[u8], p: Span) -> &[u8]
-    requires { ⌜ Inside (now s) p ⌝ }
-    ensures { λ r. ⌜ now r ≡ part (now (s .entry)) p ⌝ }
-{
-    let start = p.start;
-    let end = p.end;
-    &s[start..end]
-}
-
-// What stands at a place of a stretch: a TLV, whose value lies from start to end; bytes that are none; or nothing more.
-pub enum Head {
-    Tlv {
-        tag: usize,
-        start: usize,
-        end: usize,
-    },
-    Bad,
-    End,
-}
-
-// The header at a place.
-pub fn header(s: &[u8], at: usize) -> Head
-    ensures { λ r. ⌜ r ≡ headAt (now (s .entry)) at ⌝ }
-{
-    if s.len() <= at {
-        return Head::End;
-    }
-    if s.len() - at < 4 {
-        return Head::Bad;
-    }
-    let tag = get16(s, at);
-    let len = get16(s, at + 2);
-    if s.len() - at - 4 < len {
-        return Head::Bad;
-    }
-    Head::Tlv {
-        tag,
-        start: at + 4,
-        end: at + 4 + len,
-    }
-}
-
-// The bits that mark a composite and a critical tag.
-pub const COMPOSITE: usize = 0x1000;
-
-pub const CRITICAL: usize = 0x2000;
 
 // Whether a stretch is a run of TLVs that goes at most `levels` deep.
 pub fn well_formed(s: &[u8], levels: usize) -> bool

@@ -11,7 +11,7 @@ use Rattle.model.specs.Commands.{Result, refused, gave}
 use Rattle.model.specs.Reader.{Stretch, isResponse, readResponse}
 use Rattle.model.proofs.Basics.{split}
 use Rattle.model.proofs.Refusals.{not-read}
-use Rattle.tlv.specs.declared.reader.Span.{Span}
+use Rattle.tlv.specs.declared.heads.Span.{Span}
 use Rattle.assertion.specs.Completions.{Ended, ended, ends}
 use Rattle.assertion.specs.declared.Completed.{Completed}
 use Rattle.assertion.specs.declared.Completed.the-variants.{Refused, Wrote}

@@ -4,7 +4,7 @@ use mathlib.Core.Bool.{true, false}
 use native.Mathlib.Omega.{arith}
 use borrow.Author.Tests.{not-true, not-false}
 use Rattle.tlv.specs.Heads.{headAt}
-use Rattle.tlv.specs.declared.reader.Head.the-variants.{Tlv as Found}
+use Rattle.tlv.specs.declared.heads.Head.the-variants.{Tlv as Found}
 use Rattle.tlv.proofs.HeadLaws.{IsTlv, tlv-is}
 use Rattle.layouts.proofs.PlaceLaws.{past-head, past-other, past-tag}
 use borrow.Author.Needs.{needs}

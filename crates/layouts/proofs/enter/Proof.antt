@@ -3,7 +3,7 @@ use mathlib.Core.Path.{_≡_, sym, _∙_}
 use mathlib.Core.Bool.{true, false}
 use borrow.Author.Tests.{eq-eqb, ne-eqb}
 use Rattle.tlv.specs.Heads.{headAt}
-use Rattle.tlv.specs.declared.reader.Head.the-variants.{Tlv as Found}
+use Rattle.tlv.specs.declared.heads.Head.the-variants.{Tlv as Found}
 use Rattle.layouts.proofs.PlaceLaws.{in-head, in-other, in-tag}
 use borrow.Author.Needs.{needs}
 use Rattle.layouts.proofs.enter.Statement.{statement}

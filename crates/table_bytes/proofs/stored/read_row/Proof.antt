@@ -4,7 +4,7 @@ use Prim.Native.Nat.{ℕ}
 use borrow.Author.Needs.{needs}
 use denote.Ref.{now}
 use Rattle.model.specs.Tlv.{keyId, mixedToken, username, counter}
-use Rattle.tlv.specs.declared.reader.Span.{Span}
+use Rattle.tlv.specs.declared.heads.Span.{Span}
 use Rattle.fields.proofs.FieldLaws.{IsField, field-is}
 use Rattle.table_bytes.proofs.LoadLaws.{unread-all, unread-next, unread-missing, unread-more, unread-none, row-parts, row-whole}
 use Rattle.table_bytes.proofs.stored.read_row.Statement.{statement}

@@ -14,7 +14,7 @@ use borrow.Fn.PlainCycle.{Measures, is, falls, and}
 use Rattle.tlv.proofs.reader.well_formed.Reads as well-formed
 use Rattle.tlv.proofs.reader.well_formed.Kinds as well-formed-kinds
 use Rattle.tlv.proofs.reader.+well_formed.Lts-well_formed as well-formed-lts
-use Rattle.tlv.proofs.reader.header.Reads as header-reads
+use Rattle.tlv.proofs.walk.header.Reads as header-reads
 use Rattle.tlv.proofs.reader.+well_formed.{statement}
 use Rattle.tlv.proofs.reader.+well_formed.Tie.{close}
 

@@ -2,8 +2,8 @@ use borrow.Author.Needs.{needs}
 use native.Mathlib.Omega.{arith}
 use mathlib.Core.Path.{sym}
 use Rattle.tlv.proofs.HeadLaws.{head-end, head-bad, head-tlv}
-use Rattle.tlv.proofs.reader.header.Statement.{statement}
-use Rattle.tlv.proofs.reader.header.Tie as tie
+use Rattle.tlv.proofs.heads.head_at.Statement.{statement}
+use Rattle.tlv.proofs.heads.head_at.Tie as tie
 
 returns : tie.Need-returns
 returns c = sym (head-end _ _ (c .if1 .taken))
@@ -46,8 +46,8 @@ returns-4 c =
     sym
     (head-tlv _ _ _ _ (c .before .before .get16 .ensures .value) (c .before .get162 .ensures .value) (omega arith))
 
-pub header-spec : {M : Type 1} → statement M
-header-spec =
+pub head-at-spec : {M : Type 1} → statement M
+head-at-spec =
     tie.close
     (tie.spec
     returns
