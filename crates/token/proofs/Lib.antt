@@ -2,3 +2,4 @@
 pub mod EntryLaws
 pub mod AssertionLaws
 pub mod RoundTrip
+pub mod SeparationOfCalls

@@ -49,11 +49,11 @@ pub record ReadsBack (c : Completion) (layout : Layout) (values : List (List ℕ
 -- ---- a completion that gives 0 wrote a response
 
 -- no refusal has the number 0
-abbrev Numbered : List Check → Type 0
+abbrev pub Numbered : List Check → Type 0
 Numbered [] = Unit {0}
 Numbered (c ∷ cs) = (0 < c .says) × Numbered cs
 
-one-of : {A G : Type 0} (cs : List Check) (x : A) → Numbered cs → ((n : ℕ) → 0 < n → judge cs refused (gave x) ≡ refused n → G)
+pub one-of : {A G : Type 0} (cs : List Check) (x : A) → Numbered cs → ((n : ℕ) → 0 < n → judge cs refused (gave x) ≡ refused n → G)
     → (judge cs refused (gave x) ≡ gave x → G) → G
 unfolding judge
 one-of [] x h f g = g refl
