@@ -5,8 +5,7 @@ use mathlib.Core.List.{List, [], _∷_, _++_, append-assoc, append-nil}
 use Prim.Native.Nat.{ℕ, _+_}
 use native.Mathlib.Omega.{arith}
 use lib.ListN.{length}
-use Rattle.model.specs.Tlv.{le, header, Tlv, tlv, bytes, tagOf, ok}
-use Rattle.model.specs.Complete.{assertionTag}
+use Rattle.model.specs.Tlv.{le, header, Tlv, tlv, bytes, tagOf, ok, assertionTag}
 use Rattle.model.proofs.Tlvs.{bytes-append, length-bytes}
 use Rattle.model.proofs.CompletionWrites.{wrapped}
 use Rattle.tlv.specs.Writing.{Wrote}

@@ -2,9 +2,9 @@
 use Prim.Native.Nat.{ℕ, _+_}
 use mathlib.Core.List.{List, [], _∷_, _++_}
 use lib.ListN.{length}
-use Rattle.model.specs.Tlv.{le, header, tlv, bytes, tagOf, ok}
+use Rattle.model.specs.Tlv.{le, header, tlv, bytes, tagOf, ok, assertionTag}
 use Rattle.model.specs.Commands.{Result, refused, gave}
-use Rattle.model.specs.Complete.{Completion, assertionTag, outputOf}
+use Rattle.model.specs.Complete.{Completion, outputOf}
 use Rattle.assertion.specs.declared.Completed.{Completed}
 use Rattle.assertion.specs.declared.Completed.the-variants.{Refused, Wrote}
 

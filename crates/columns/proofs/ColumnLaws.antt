@@ -11,7 +11,7 @@ use lib.ListN.{length, getD, take, drop, drop-of-length-le, length-drop}
 use lib.Seq.{drop-cons, drop-drop, take-add, take-at, drop-at, length-take-le}
 use lib.Dec.{leb}
 use borrow.Author.Tests.{leb-true, le-leb}
-use Rattle.model.specs.Lists.{all, put, eqBytes, among, distinct}
+use Rattle.model.specs.Lists.{all, consIf, eqBytes, among, distinct}
 use Rattle.model.proofs.Basics.{split, eqBytes-eq}
 use Rattle.tlv.specs.Writing.{splice}
 use Rattle.columns.specs.Columns.{rows, row, times, eachFew}
@@ -40,14 +40,14 @@ part-row i c =
 
 -- ---- how often a row stands there
 
-length-put : (b : Bool) (x : List ℕ) (xs : List (List ℕ)) → length (put b x xs) ≡ cond b 1 0 + length xs
-length-put true x xs = omega arith
-length-put false x xs = omega arith
+length-consIf : (b : Bool) (x : List ℕ) (xs : List (List ℕ)) → length (consIf b x xs) ≡ cond b 1 0 + length xs
+length-consIf true x xs = omega arith
+length-consIf false x xs = omega arith
 
 -- one row more counts if it is v
 times-cons : (v c : List ℕ) (cs : List (List ℕ)) → times v (c ∷ cs) ≡ cond (eqBytes c v) 1 0 + times v cs
 unfolding times
-times-cons v c cs = length-put (eqBytes c v) c _
+times-cons v c cs = length-consIf (eqBytes c v) c _
 
 -- each row stands at most `most` times from its own place on
 abbrev pub fewFrom : ℕ → List (List ℕ) → Bool

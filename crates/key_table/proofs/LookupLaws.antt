@@ -10,7 +10,7 @@ use native.Mathlib.Omega.{arith}
 use lib.ListN.{length, getD, take, drop, set, length-map, drop-of-length-le, List·getD-map}
 use lib.Seq.{drop-cons, drop-drop, take-length, length-take-le, getD-take, getD-drop, take-suc-set}
 use lib.Dec.{eqb}
-use Rattle.model.specs.Lists.{put, select, empty, eqBytes, among}
+use Rattle.model.specs.Lists.{consIf, select, empty, eqBytes, among}
 use Rattle.model.specs.Records as model
 use Rattle.model.specs.Records.{own, keyIds}
 use Rattle.model.specs.Commands.{chosen}
@@ -78,7 +78,7 @@ module _ (m : List ℕ) (hs : List (List ℕ)) (n i : ℕ) (owners keys : List �
 -- at row i, where a and b are what the tests of its mixed token and of its KeyID gave
 pub chosen-at : (m : List ℕ) (hs : List (List ℕ)) (n i : ℕ) (owners keys : List ℕ) → i < n → (a b : Bool)
     → a ≡ eqBytes (row i owners) m → b ≡ (empty hs || among (row i keys) hs)
-    → chosenFrom m hs n i owners keys ≡ put (a && b) i (chosenFrom m hs n (i + 1) owners keys)
+    → chosenFrom m hs n i owners keys ≡ consIf (a && b) i (chosenFrom m hs n (i + 1) owners keys)
 unfolding chosenIn
 chosen-at m hs n i owners keys h a b e f = rw (rows-at n i owners h, rows-at n i keys h, add-one, ← e, ← f)
 
@@ -101,7 +101,7 @@ pub chosen-places : (m : List ℕ) (hs : List (List ℕ)) (i : ℕ) (t : model.T
     → chosenIn m hs i (map (cellOf Mixed) t) (map (cellOf KeyId) t) ≡ places (isChosen m hs) i t
 unfolding chosenIn places
 chosen-places m hs i [] = refl
-chosen-places m hs i (r ∷ t) = ap (put (isChosen m hs r) i) (chosen-places m hs (suc i) t)
+chosen-places m hs i (r ∷ t) = ap (consIf (isChosen m hs r) i) (chosen-places m hs (suc i) t)
 
 -- ---- the places of the elements that pass a test
 
@@ -121,18 +121,18 @@ module _ {A : Type 0} (p : A → Bool) (z : A) where
   places-select xs = places-rest xs 0 xs refl
 
 -- an element more that is below k
-put-below : (b : Bool) (i k : ℕ) (is : List ℕ) → i < k → ((j : ℕ) → j < length is → getD is j 0 < k)
-    → (j : ℕ) → j < length (put b i is) → getD (put b i is) j 0 < k
-put-below false i k is h f j l = f j l
-put-below true i k is h f zero l = h
-put-below true i k is h f (suc j) l = f j (omega arith)
+consIf-below : (b : Bool) (i k : ℕ) (is : List ℕ) → i < k → ((j : ℕ) → j < length is → getD is j 0 < k)
+    → (j : ℕ) → j < length (consIf b i is) → getD (consIf b i is) j 0 < k
+consIf-below false i k is h f j l = f j l
+consIf-below true i k is h f zero l = h
+consIf-below true i k is h f (suc j) l = f j (omega arith)
 
 module _ {A : Type 0} (p : A → Bool) where
   places-under : (i : ℕ) (xs : List A) (j : ℕ) → j < length (places p i xs) → getD (places p i xs) j 0 < i + length xs
   unfolding places
   places-under i [] j h = absurd (omega arith)
   places-under i (x ∷ xs) j h =
-      put-below (p x) i (i + suc (length xs)) (places p (suc i) xs) (omega arith)
+      consIf-below (p x) i (i + suc (length xs)) (places p (suc i) xs) (omega arith)
       (λ k l. omega (arith, places-under (suc i) xs k l)) j h
 
   -- each of them is a place of the list

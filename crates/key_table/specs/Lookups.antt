@@ -4,7 +4,7 @@ use Prim.Native.Nat.{ℕ, suc, _≤_}
 use mathlib.Core.Bool.{Bool, _&&_, _||_}
 use mathlib.Core.List.{List, [], _∷_}
 use lib.ListN.{take}
-use Rattle.model.specs.Lists.{put, empty, eqBytes, among}
+use Rattle.model.specs.Lists.{consIf, empty, eqBytes, among}
 use Rattle.model.specs.Records as model
 use Rattle.key_table.specs.declared.lookups.Rows.{Rows}
 
@@ -18,13 +18,13 @@ isChosen m handles r = passes m handles (r .mixed) (r .keyId)
 -- the places of the elements that pass a test, the first of the list being at place i
 unfoldable pub places : {A : Type 0} → (A → Bool) → ℕ → List A → List ℕ
 places p i [] = []
-places p i (x ∷ xs) = put (p x) i (places p (suc i) xs)
+places p i (x ∷ xs) = consIf (p x) i (places p (suc i) xs)
 
 -- the same of two columns
 unfoldable pub chosenIn : List ℕ → List (List ℕ) → ℕ → List (List ℕ) → List (List ℕ) → List ℕ
 chosenIn m handles i [] keys = []
 chosenIn m handles i (o ∷ owners) [] = []
-chosenIn m handles i (o ∷ owners) (k ∷ keys) = put (passes m handles o k) i (chosenIn m handles (suc i) owners keys)
+chosenIn m handles i (o ∷ owners) (k ∷ keys) = consIf (passes m handles o k) i (chosenIn m handles (suc i) owners keys)
 
 -- these are the places that a function gave
 pub record RowsAre (is : List ℕ) (r : Rows) : Type 0 where

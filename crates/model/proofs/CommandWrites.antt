@@ -9,10 +9,10 @@ use lib.ListN.{length, getD, take, drop}
 use lib.Dec.{leb, eqb}
 use borrow.Author.Tests.{leb-true, lt-ltb, eqb-true, eqb-false, eq-eqb}
 use Rattle.model.specs.Lists.{all, any, select, empty, eqBytes, among, distinct}
-use Rattle.model.specs.Tlv.{le, fits, aaid, metadata, challengeHash, keyId, publicKey, username, nonce, contentHash, keyHandle, newCount, Kind, getInfo, register, sign, deregister, openSettings, kinds, broken, fieldsIn, fieldIn}
+use Rattle.model.specs.Tlv.{le, fits, aaid, metadata, challengeHash, keyId, publicKey, username, nonce, contentHash, keyHandle, newCount, Kind, getInfo, register, sign, deregister, openSettings, kinds, broken, fieldsIn, fieldIn, responseTag}
 use Rattle.model.specs.Layouts.{Layout, end, size}
 use Rattle.model.specs.Records.{Record, Table, recordOk, hasMixed, own, keyIds, maxCount, maxOwn}
-use Rattle.model.specs.Commands.{statuses, bytesOf, Lent, profileOk, lentOk, Call, mixedOf, Given, Check, judge, gave, Answer, response, draft, Change, keep, Decision, Effect, responseTag, statusOnly, only, info, infoFields, infoResponse, decideGetInfo, keyRegistrationData, registerFields, registerDraft, registerChecks, decideRegister, chosen, nameRows, nameList, nameFields, nameResponse, signedData, hasContent, signFields, signDraft, signOne, signChosen, decideSign, decideDeregister, decideOpenSettings, decide, perform, kind, outcome, leastOutput}
+use Rattle.model.specs.Commands.{statuses, bytesOf, Lent, profileOk, lentOk, Call, mixedOf, Given, Check, judge, gave, Answer, response, draft, Change, keep, Decision, Effect, statusOnly, only, info, infoFields, infoResponse, decideGetInfo, keyRegistrationData, registerFields, registerDraft, registerChecks, decideRegister, chosen, nameRows, nameList, nameFields, nameResponse, signedData, hasContent, signFields, signDraft, signOne, signChosen, decideSign, decideDeregister, decideOpenSettings, decide, perform, kind, outcome, leastOutput}
 use Rattle.model.specs.Complete.{draftsOf, isDraft}
 use Rattle.model.specs.Reader.{responses, isHandle, isSigned}
 use Rattle.model.proofs.Basics.{split, clash, and-left, and-right, both, eqBytes-refl, length-select, Passed}

@@ -10,10 +10,10 @@ use lib.Seq.{drop-at}
 use lib.Dec.{eqb}
 use borrow.Author.Tests.{eqb-true}
 use Rattle.model.specs.Lists.{select, empty, eqBytes, distinct}
-use Rattle.model.specs.Tlv.{Bytes, le, tlv, bytes, tagOf, fits, register, sign, ok, signature, certificate, full, surrogate}
+use Rattle.model.specs.Tlv.{Bytes, le, tlv, bytes, tagOf, fits, register, sign, ok, signature, certificate, full, surrogate, responseTag, krdTag, assertionTag, regAssertionTag, authAssertionTag}
 use Rattle.model.specs.Layouts.{Layout, end, field, group, fields, size, fill, write, reads}
-use Rattle.model.specs.Commands.{responseTag, refused, gave, keyRegistrationData, signedData, leastOutput, krdTag}
-use Rattle.model.specs.Complete.{Completion, draftsOf, isDraft, completionOk, assertionTag, regAssertionTag, authAssertionTag, completed, complete}
+use Rattle.model.specs.Commands.{refused, gave, keyRegistrationData, signedData, leastOutput}
+use Rattle.model.specs.Complete.{Completion, draftsOf, isDraft, completionOk, completed, complete}
 use Rattle.model.specs.Reader.{asserted, responses, isHandle, isSigned}
 use Rattle.model.proofs.Basics.{split, and-left, and-right, both, not-not, judged}
 use Rattle.model.proofs.Tlvs.{bytes-append, length-bytes}

@@ -9,11 +9,11 @@ use native.Mathlib.Omega.{arith}
 use lib.ListN.{length}
 use lib.Dec.{eqb, leb}
 use borrow.Author.Tests.{le-leb, lt-leb, eq-eqb, ne-eqb}
-use Rattle.model.specs.Lists.{put, select, empty, eqBytes, among, distinct, all}
-use Rattle.model.specs.Tlv.{num, le, bytes, attestationType, username, keyIdOrNone, full, surrogate, Kind, getInfo, register, sign, deregister, openSettings, broken, fieldIn}
+use Rattle.model.specs.Lists.{consIf, select, empty, eqBytes, among, distinct, all}
+use Rattle.model.specs.Tlv.{num, le, bytes, attestationType, username, keyIdOrNone, full, surrogate, Kind, getInfo, register, sign, deregister, openSettings, broken, fieldIn, responseTag}
 use Rattle.model.specs.Layouts.{fill, write}
 use Rattle.model.specs.Records.{Record, Table, own, keyIds, hasMixed, tableOk, maxOwn, maxRecords}
-use Rattle.model.specs.Commands.{Call, mixedOf, judge, response, draft, keep, add, isKey, apply, Decision, responseTag, only, verdictStatus, infoResponse, decideGetInfo, registerDraft, registerChecks, decideRegister, decideSign, decideDeregister, decideOpenSettings, decide, Effect, perform}
+use Rattle.model.specs.Commands.{Call, mixedOf, judge, response, draft, keep, add, isKey, apply, Decision, only, verdictStatus, infoResponse, decideGetInfo, registerDraft, registerChecks, decideRegister, decideSign, decideDeregister, decideOpenSettings, decide, Effect, perform}
 use Rattle.model.proofs.Basics.{split, clash, and-left, and-right, both, eqBytes-eq, eqBytes-not, eqBytes-sym, all-same, select-all}
 use Rattle.model.proofs.Separation.{other-apply}
 
@@ -140,7 +140,7 @@ stands p r rs (x ∷ t) e =
 
 select-gap : (p : Record → Bool) (a : Table) (r : Record) (b : Table) → p r ≡ false → select p (a ++ (r ∷ b)) ≡ select p (a ++ b)
 select-gap p [] r b e = rw e
-select-gap p (x ∷ a) r b e = ap (put (p x) x) (select-gap p a r b e)
+select-gap p (x ∷ a) r b e = ap (consIf (p x) x) (select-gap p a r b e)
 
 -- another KeyID
 abbrev other : List ℕ → Record → Bool

@@ -11,9 +11,9 @@ use lib.Seq.{take-at}
 use lib.Dec.{leb, ltb, eqb}
 use borrow.Author.Tests.{leb-true, ltb-true, eqb-true}
 use Rattle.model.specs.Lists.{select, first, distinct, any, all}
-use Rattle.model.specs.Tlv.{num, le, bytes, fits, ruleOf, Kind, register, sign, broken}
+use Rattle.model.specs.Tlv.{num, le, bytes, fits, ruleOf, Kind, register, sign, broken, responseTag}
 use Rattle.model.specs.Layouts.{Layout, end, field, group, size, fill, write}
-use Rattle.model.specs.Commands.{Call, Given, tableOf, Effect, gave, response, responseTag, kind, outcome, Lent, lentOk, statuses, draft, keyRegistrationData, registerFields, registerDraft, signedData, hasContent, signFields, signDraft}
+use Rattle.model.specs.Commands.{Call, Given, tableOf, Effect, gave, response, kind, outcome, Lent, lentOk, statuses, draft, keyRegistrationData, registerFields, registerDraft, signedData, hasContent, signFields, signDraft}
 use Rattle.model.specs.Records.{Table, Record, recordOk, maxCount}
 use Rattle.model.specs.Complete.{Completion, draftsOf, complete, isDraft}
 use Rattle.model.specs.Reader.{Part, Stretch, Reading, parts, fieldParts, cut, responses, isResponse, signedPart, stretch, readResponse, isSigned}

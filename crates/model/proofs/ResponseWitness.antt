@@ -8,11 +8,11 @@ use native.Mathlib.Omega.{arith}
 use lib.ListN.{length, drop, getD, length-drop}
 use lib.Dec.{T, eqb, leb, ltb, lit<, lit≤}
 use Rattle.model.specs.Lists.{any, all, select, eqBytes, distinct}
-use Rattle.model.specs.Tlv.{Bytes, num, le, tlv, bytes, Kind, getInfo, register, sign, deregister, openSettings, Field, statusAmong, ok, apiVersion, index, aaid, metadata, contentType, assertionScheme, fullType, surrogateType, signature, certificate, full, surrogate, textPlain, uafV1Tlv, ruleOf, tagOf, fits, tlvsPast, childrenOk, children, broken}
+use Rattle.model.specs.Tlv.{Bytes, num, le, tlv, bytes, Kind, getInfo, register, sign, deregister, openSettings, Field, statusAmong, ok, apiVersion, index, aaid, metadata, contentType, assertionScheme, fullType, surrogateType, signature, certificate, full, surrogate, textPlain, uafV1Tlv, ruleOf, tagOf, fits, tlvsPast, childrenOk, children, broken, responseTag, assertionTag, regAssertionTag, authAssertionTag}
 use Rattle.model.specs.Layouts.{Layout, end, field, group, fields, size, fill, write, reads}
 use Rattle.model.specs.Records.{Table, hasMixed, keyIds, recordOk, own, tableOk}
-use Rattle.model.specs.Commands.{statuses, responseTag, Decision, Lent, response, gave, statusOnly, info, nameRows, nameList, nameFields, nameResponse, keyRegistrationData, signedData, judge, profileOk, lentOk, infoResponse, decideGetInfo, decide, perform, leastOutput}
-use Rattle.model.specs.Complete.{Completion, completionOk, signatureOf, attestation, assertionTag, regAssertionTag, authAssertionTag, completed, complete}
+use Rattle.model.specs.Commands.{statuses, Decision, Lent, response, gave, statusOnly, info, nameRows, nameList, nameFields, nameResponse, keyRegistrationData, signedData, judge, profileOk, lentOk, infoResponse, decideGetInfo, decide, perform, leastOutput}
+use Rattle.model.specs.Complete.{Completion, completionOk, signatureOf, attestation, completed, complete}
 use Rattle.model.specs.Reader.{asserted, registered, signed, responses, listedKeys, isResponse, isHandle}
 use Rattle.model.proofs.Basics.{and-left, and-right, both, eqBytes-eq, select-all, length-select}
 use Rattle.model.proofs.Tlvs.{bytes-append}

@@ -10,9 +10,9 @@ use lib.ListN.{length, drop, getD, replicate, length-append}
 use lib.Dec.{lit<, leb}
 use borrow.Author.Tests.{leb-true}
 use Rattle.model.specs.Lists.{all, eqBytes}
-use Rattle.model.specs.Tlv.{Bytes, num, le, Tlv, tlv, bytes, tlvs, fits, keyId, mixedToken, username, counter}
+use Rattle.model.specs.Tlv.{Bytes, num, le, Tlv, tlv, bytes, tlvs, fits, keyId, mixedToken, username, counter, pairTag}
 use Rattle.model.specs.Layouts.{Layout, fields, fill, write, matches}
-use Rattle.model.specs.Records.{Record, Table, maxCount, recordOk, own, maxRecords, tableOk, pairTag, storedRecord, encode, maxStored, storedAs, tableFrom, decode}
+use Rattle.model.specs.Records.{Record, Table, maxCount, recordOk, own, maxRecords, tableOk, storedRecord, encode, maxStored, storedAs, tableFrom, decode}
 use Rattle.model.proofs.Basics.{split, and-left, and-right, both}
 use Rattle.model.proofs.Numbers.{length-le, bytes-le, num-le, le-num}
 use Rattle.model.proofs.Tlvs.{Sized, Held, bytes-append, tlvs-bytes, bytes-tlvs, bytes-join}

@@ -1,4 +1,4 @@
--- Document 01, "Commands": what is lent, the five commands, and last the refusals, which every call checks first.
+-- Document 01, "Commands": what is lent, what "Calls first check", what a command answers and changes, the five commands, and what a call gives.
 use Prim.Native.Nat.{ℕ, zero, suc}
 use mathlib.Core.Bool.{Bool, true, not, cond, _&&_, _||_}
 use mathlib.Core.List.{List, [], _∷_, _++_, map}
@@ -6,11 +6,11 @@ use mathlib.Core.Option.{Option, none, some, Option·getD, Option·map}
 use lib.ListN.{length, drop, getD}
 use lib.Dec.{leb, ltb, eqb}
 use Rattle.model.specs.Lists.{select, empty, given, eqBytes, among}
-use Rattle.model.specs.Tlv.{num, le, fits, index, challengeHash, username, attestationType, keyHandle, keyId, keyIdOrNone, transactionContent, mixedToken, aaid, metadata, publicKey, nonce, statusAmong, ok, apiVersion, contentType, assertionScheme, fullType, surrogateType, noCounts, newCount, assertionInfo, contentHash, full, surrogate, textPlain, uafV1Tlv, Kind, getInfo, register, sign, deregister, openSettings, kindOf, broken, fieldsIn, fieldIn}
+use Rattle.model.specs.Tlv.{num, le, fits, index, challengeHash, username, attestationType, keyHandle, keyId, keyIdOrNone, transactionContent, mixedToken, aaid, metadata, publicKey, nonce, statusAmong, ok, apiVersion, contentType, assertionScheme, fullType, surrogateType, noCounts, newCount, assertionInfo, contentHash, full, surrogate, textPlain, uafV1Tlv, Kind, getInfo, register, sign, deregister, openSettings, kindOf, broken, fieldsIn, fieldIn, responseTag, pairTag, infoTag, krdTag, signedTag}
 use Rattle.model.specs.Layouts.{Layout, end, field, group, fields, write}
-use Rattle.model.specs.Records.{Record, Table, maxCount, maxRecords, maxOwn, maxStored, pairTag, own, keyIds, hasMixed, tableOk, encode, decode}
+use Rattle.model.specs.Records.{Record, Table, maxCount, maxRecords, maxOwn, maxStored, own, keyIds, hasMixed, tableOk, encode, decode}
 
--- "The profile is lent": aaid to metadata; hashing, keys, fingerprint and display "lend their results": the rest
+-- "The profile is lent" ("Records", last paragraph): aaid to metadata; hashing, keys, fingerprint and display "lend their results": the rest
 pub record Lent : Type 0 where
   pub aaid : List ℕ
   pub version : ℕ
@@ -36,8 +36,49 @@ pub record Call : Type 0 where
 abbrev pub mixedOf : Call → List ℕ
 mixedOf c = c .lent .mixed
 
--- ---- "a lent result that this command uses has a wrong length or number"
+-- ---- the first check that fails answers with its number
 
+pub record Check : Type 0 where
+  pub says : ℕ
+  pub fails : Bool
+
+abbrev pub check : ℕ → Bool → Check
+check n b = record { says = n; fails = b }
+
+-- says: what becomes of the number; passed: what there is if no check fails
+unfoldable pub judge : {A : Type 0} → List Check → (ℕ → A) → A → A
+judge [] says passed = passed
+judge (c ∷ cs) says passed = cond (c .fails) (says (c .says)) (judge cs says passed)
+
+-- one refusal, or a result
+pub data Result (A : Type 0) : Type 0 where
+  refused : ℕ → Result A
+  gave : A → Result A
+
+-- ---- "Calls first check"
+
+-- "1, response output shorter than 4,096 or, where a stored table is written, its own output shorter than 6,912"
+abbrev pub leastOutput : ℕ
+leastOutput = 4096
+
+-- without a table output none is too short
+abbrev pub shortOutput : ℕ → Option ℕ → Bool
+shortOutput n table = ltb n leastOutput || ltb (Option·getD table maxStored) maxStored
+
+-- a call is given the table itself or its stored form; none if "the table or its stored form breaks a rule"
+pub data Given : Type 0 where
+  value : Table → Given
+  stored : List ℕ → Given
+
+unfoldable pub tableOf : Given → Option Table
+tableOf (value t) = cond (tableOk t) (some t) none
+tableOf (stored s) = decode s
+
+-- the command's kind, which there is past check 3
+abbrev pub kind : Call → Kind
+kind c = Option·getD (kindOf (c .command)) getInfo
+
+-- "a lent result that this command uses has a wrong length or number"
 unfoldable pub profileOk : Lent → Bool
 profileOk l =
     fits aaid (l .aaid) && fits metadata (l .metadata) && ltb (l .version) 65536 && ltb (l .signatureAlgorithm) 65536
@@ -54,23 +95,13 @@ lentOk sign l =
 lentOk deregister l = fits mixedToken (l .mixed)
 lentOk openSettings l = true
 
--- ---- the first check that fails answers with its number
-
-pub record Check : Type 0 where
-  pub says : ℕ
-  pub fails : Bool
-
-abbrev pub check : ℕ → Bool → Check
-check n b = record { says = n; fails = b }
-
-unfoldable pub judge : {A : Type 0} → List Check → (ℕ → A) → A → A
-judge [] says passed = passed
-judge (c ∷ cs) says passed = cond (c .fails) (says (c .says)) (judge cs says passed)
-
--- one refusal, or a result
-pub data Result (A : Type 0) : Type 0 where
-  refused : ℕ → Result A
-  gave : A → Result A
+unfoldable pub refusals : Call → Given → List Check
+refusals c g =
+    check 1 (shortOutput (c .output) (c .tableOutput))
+    ∷ check 2 (not (given (tableOf g)))
+    ∷ check 3 (not (given (kindOf (c .command))))
+    ∷ check 4 (not (lentOk (kind c) (c .lent)))
+    ∷ []
 
 -- ---- what a command answers, and what it changes in the table
 
@@ -86,6 +117,7 @@ pub data Change : Type 0 where
   remove : (keyId : List ℕ) → Change
   removeAll : Change
 
+-- mixed token m's record with KeyID k
 abbrev pub isKey : List ℕ → List ℕ → Record → Bool
 isKey m k r = hasMixed m r && eqBytes (r .keyId) k
 
@@ -104,13 +136,6 @@ pub record Decision : Type 0 where
   pub answer : Answer
   pub change : Change
 
-abbrev pub responseTag : Kind → ℕ
-responseTag getInfo = 0x3601
-responseTag register = 0x3602
-responseTag sign = 0x3603
-responseTag deregister = 0x3604
-responseTag openSettings = 0x3606
-
 -- "holds STATUS_CODE (2 bytes) only": the statuses that each command can give so
 abbrev pub statuses : Kind → List ℕ
 statuses getInfo = 0x08 ∷ []
@@ -122,16 +147,9 @@ statuses openSettings = 0x06 ∷ 0x08 ∷ []
 abbrev pub statusOnly : Kind → Layout
 statusOnly k = group (responseTag k) (field (statusAmong (statuses k)) end) end
 
+-- a status alone, with this change
 unfoldable pub only : Kind → Change → ℕ → Decision
 only k c n = record { answer = response (write (statusOnly k) (le 2 n ∷ [])); change = c }
-
--- "1 ACCESS_DENIED 0x02, 2 USER_NOT_ENROLLED 0x03, 3 USER_CANCELLED 0x05, 4 USER_NOT_RESPONSIVE 0x0E, 5 USER_LOCKOUT 0x10"
-abbrev pub verdictStatus : ℕ → ℕ
-verdictStatus v = getD (0x00 ∷ 0x02 ∷ 0x03 ∷ 0x05 ∷ 0x0E ∷ 0x10 ∷ []) v 0x00
-
--- "1 0x05, 2 CANNOT_RENDER_TRANSACTION_CONTENT 0x04, 3 0x0E"
-abbrev pub displayStatus : ℕ → ℕ
-displayStatus d = getD (0x00 ∷ 0x05 ∷ 0x04 ∷ 0x0E ∷ []) d 0x00
 
 -- ---- GetInfo: "STATUS_CODE OK 0x00, API_VERSION (1 byte) 1, AUTHENTICATOR_INFO with index, AAID, METADATA, content type text/plain,
 -- the eight letters UAFV1TLV as ASSERTION_SCHEME, then one ATTESTATION_TYPE each for 0x3E07 and 0x3E08, in this order"
@@ -141,7 +159,7 @@ info =
     group (responseTag getInfo)
     (field ok
     (field apiVersion
-    (group 0x3811 (fields (index ∷ aaid ∷ metadata ∷ contentType ∷ assertionScheme ∷ fullType ∷ surrogateType ∷ [])) end)))
+    (group infoTag (fields (index ∷ aaid ∷ metadata ∷ contentType ∷ assertionScheme ∷ fullType ∷ surrogateType ∷ [])) end)))
     end
 
 abbrev pub infoFields : Lent → List (List ℕ)
@@ -156,23 +174,11 @@ decideGetInfo s l =
     judge (check 0x08 (broken getInfo s) ∷ []) (only getInfo keep)
     (record { answer = response (infoResponse l); change = keep })
 
--- ---- Register: "KRD: AAID, ASSERTION_INFO (version, mode 0x01, both algorithms; 7 bytes), challenge hash, KEYID, COUNTERS
--- (SignCounter 0, RegCounter 0; 4 bytes each), PUB_KEY"
+-- ---- Register
 
-abbrev pub krdTag : ℕ
-krdTag = 0x3E03
-
-abbrev pub keyRegistrationData : Layout → Layout
-keyRegistrationData rest =
-    group krdTag (fields (aaid ∷ assertionInfo 7 0x01 ∷ challengeHash ∷ keyId ∷ noCounts ∷ publicKey ∷ [])) rest
-
-abbrev pub registerFields : List ℕ → Lent → List (List ℕ)
-registerFields s l =
-    l .aaid ∷ (le 2 (l .version) ++ (0x01 ∷ le 2 (l .signatureAlgorithm) ++ le 2 (l .keyAlgorithm))) ∷ fieldIn challengeHash s
-    ∷ l .keyId ∷ (le 4 0 ++ le 4 0) ∷ l .publicKey ∷ []
-
-unfoldable pub registerDraft : List ℕ → Lent → List ℕ
-registerDraft s l = write (keyRegistrationData end) (registerFields s l)
+-- "1 ACCESS_DENIED 0x02, 2 USER_NOT_ENROLLED 0x03, 3 USER_CANCELLED 0x05, 4 USER_NOT_RESPONSIVE 0x0E, 5 USER_LOCKOUT 0x10"
+abbrev pub verdictStatus : ℕ → ℕ
+verdictStatus v = getD (0x00 ∷ 0x02 ∷ 0x03 ∷ 0x05 ∷ 0x0E ∷ 0x10 ∷ []) v 0x00
 
 -- mine: the caller's records; taken: the KeyID is stored, by anybody; filled: there are 32 records in all
 unfoldable pub registerChecks : List ℕ → Lent → Table → Bool → Bool → List Check
@@ -184,6 +190,20 @@ registerChecks s l mine taken filled =
     ∷ check 0x01 taken
     ∷ check 0x0F (leb maxOwn (length mine) || filled)
     ∷ []
+
+-- "KRD: AAID, ASSERTION_INFO (version, mode 0x01, both algorithms; 7 bytes), challenge hash, KEYID, COUNTERS (SignCounter 0,
+-- RegCounter 0; 4 bytes each), PUB_KEY"
+abbrev pub keyRegistrationData : Layout → Layout
+keyRegistrationData rest =
+    group krdTag (fields (aaid ∷ assertionInfo 7 0x01 ∷ challengeHash ∷ keyId ∷ noCounts ∷ publicKey ∷ [])) rest
+
+abbrev pub registerFields : List ℕ → Lent → List (List ℕ)
+registerFields s l =
+    l .aaid ∷ (le 2 (l .version) ++ (0x01 ∷ le 2 (l .signatureAlgorithm) ++ le 2 (l .keyAlgorithm))) ∷ fieldIn challengeHash s
+    ∷ l .keyId ∷ (le 4 0 ++ le 4 0) ∷ l .publicKey ∷ []
+
+unfoldable pub registerDraft : List ℕ → Lent → List ℕ
+registerDraft s l = write (keyRegistrationData end) (registerFields s l)
 
 unfoldable pub decideRegister : List ℕ → Lent → Table → Bool → Bool → Decision
 decideRegister s l mine taken filled =
@@ -213,9 +233,6 @@ nameResponse rs = write (nameList (length rs)) (le 2 0 ∷ nameFields rs)
 
 -- "SIGNED_DATA: AAID, ASSERTION_INFO (version, mode, signature algorithm; 5 bytes), NONCE, challenge hash, TRANSACTION_CONTENT_HASH,
 -- KEYID, COUNTERS (new count). Mode is 0x02 with content, else 0x01 and a hash of length 0"
-abbrev pub signedTag : ℕ
-signedTag = 0x3E04
-
 abbrev pub signedData : Bool → Layout → Layout
 signedData content rest =
     group signedTag
@@ -233,6 +250,10 @@ signFields content s l r =
 
 unfoldable pub signDraft : List ℕ → Lent → Record → List ℕ
 signDraft s l r = write (signedData (hasContent s) end) (signFields (hasContent s) s l r)
+
+-- "1 0x05, 2 CANNOT_RENDER_TRANSACTION_CONTENT 0x04, 3 0x0E"
+abbrev pub displayStatus : ℕ → ℕ
+displayStatus d = getD (0x00 ∷ 0x05 ∷ 0x04 ∷ 0x0E ∷ []) d 0x00
 
 -- "One: with non-empty transaction content the display result ..; then 0x01 if the counter is 4,294,967,295. Else the counter rises by 1"
 unfoldable pub signOne : List ℕ → Lent → Record → Decision
@@ -282,40 +303,13 @@ pub record Effect : Type 0 where
   pub answer : Answer
   pub left : Table
 
+-- a command decided from the caller's own records, and its change made
 unfoldable pub perform : Kind → Call → Table → Effect
 perform k c t =
     let d = decide k (c .command) (c .lent) (own (mixedOf c) t) (among (c .lent .keyId) (keyIds t)) (leb maxRecords (length t)) in
     record { answer = d .answer; left = apply (mixedOf c) (d .change) t }
 
--- "1, response output shorter than 4,096 or, where a stored table is written, its own output shorter than 6,912"
-abbrev pub leastOutput : ℕ
-leastOutput = 4096
-
--- without a table output none is too short
-abbrev pub shortOutput : ℕ → Option ℕ → Bool
-shortOutput n table = ltb n leastOutput || ltb (Option·getD table maxStored) maxStored
-
--- a call is given the table itself or its stored form; none if "the table or its stored form breaks a rule"
-pub data Given : Type 0 where
-  value : Table → Given
-  stored : List ℕ → Given
-
-unfoldable pub tableOf : Given → Option Table
-tableOf (value t) = cond (tableOk t) (some t) none
-tableOf (stored s) = decode s
-
--- "Calls first check"; past the checks there is a kind, and there is a table
-abbrev pub kind : Call → Kind
-kind c = Option·getD (kindOf (c .command)) getInfo
-
-unfoldable pub refusals : Call → Given → List Check
-refusals c g =
-    check 1 (shortOutput (c .output) (c .tableOutput))
-    ∷ check 2 (not (given (tableOf g)))
-    ∷ check 3 (not (given (kindOf (c .command))))
-    ∷ check 4 (not (lentOk (kind c) (c .lent)))
-    ∷ []
-
+-- what a call gives; past the checks there is a table
 unfoldable pub outcome : Call → Given → Result Effect
 outcome c g = judge (refusals c g) refused (gave (perform (kind c) c (Option·getD (tableOf g) [])))
 

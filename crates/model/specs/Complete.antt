@@ -4,9 +4,9 @@ use mathlib.Core.Bool.{Bool, true, false, not, cond, _&&_, _||_}
 use mathlib.Core.List.{List, [], _∷_, _++_}
 use lib.Dec.{ltb, eqb}
 use Rattle.model.specs.Lists.{any, empty}
-use Rattle.model.specs.Tlv.{le, Tlv, tlv, bytes, fits, tagOf, ok, signature, certificate, full, surrogate, register, sign}
+use Rattle.model.specs.Tlv.{le, Tlv, tlv, bytes, fits, tagOf, ok, signature, certificate, full, surrogate, register, sign, responseTag, assertionTag, regAssertionTag, authAssertionTag}
 use Rattle.model.specs.Layouts.{Layout, end, reads}
-use Rattle.model.specs.Commands.{responseTag, judge, check, Result, refused, gave, keyRegistrationData, signedData, leastOutput, over}
+use Rattle.model.specs.Commands.{judge, check, Result, refused, gave, keyRegistrationData, signedData, leastOutput, over}
 
 -- what is lent to a completion, and the response output's length
 pub record Completion : Type 0 where
@@ -44,16 +44,6 @@ attestation c = bytes (signatureOf c ∷ cond (eqb (c .type) full) (tlv (tagOf c
 abbrev pub assertion : Completion → List ℕ
 assertion c =
     c .draft ++ cond (eqb (c .kind) 1) (bytes (signatureOf c ∷ [])) (bytes (tlv (c .type) (attestation c) ∷ []))
-
--- AUTHENTICATOR_ASSERTION, REG_ASSERTION, AUTH_ASSERTION
-abbrev pub assertionTag : ℕ
-assertionTag = 0x280F
-
-abbrev pub regAssertionTag : ℕ
-regAssertionTag = 0x3E01
-
-abbrev pub authAssertionTag : ℕ
-authAssertionTag = 0x3E02
 
 -- "It writes response, status OK, AUTHENTICATOR_ASSERTION, the assertion"
 unfoldable pub completed : Completion → List ℕ

@@ -14,19 +14,22 @@ module _ {A : Type 0} where
   any p [] = false
   any p (x ∷ xs) = p x || any p xs
 
-  -- the elements that pass a test, in their order
-  abbrev pub put : Bool → A → List A → List A
-  put true x xs = x ∷ xs
-  put false x xs = xs
+  -- x in front, if the test passed
+  abbrev pub consIf : Bool → A → List A → List A
+  consIf true x xs = x ∷ xs
+  consIf false x xs = xs
 
+  -- the elements that pass a test, in their order
   abbrev pub select : (A → Bool) → List A → List A
   select p [] = []
-  select p (x ∷ xs) = put (p x) x (select p xs)
+  select p (x ∷ xs) = consIf (p x) x (select p xs)
 
+  -- the first element, if there is one
   abbrev pub first : List A → Option A
   first [] = none
   first (x ∷ xs) = some x
 
+  -- there is no element; there is something
   abbrev pub empty : List A → Bool
   empty [] = true
   empty (x ∷ xs) = false

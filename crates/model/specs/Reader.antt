@@ -6,10 +6,9 @@ use mathlib.Core.Option.{Option, none, some, Option·getD}
 use lib.ListN.{length, take, drop}
 use lib.Dec.{eqb}
 use Rattle.model.specs.Lists.{any, select, first, distinct}
-use Rattle.model.specs.Tlv.{num, Tlv, tlvs, Field, tagOf, keyHandle, ok, signature, certificate, full, surrogate, composite, register, sign, kinds}
+use Rattle.model.specs.Tlv.{num, Tlv, tlvs, Field, tagOf, keyHandle, ok, signature, certificate, full, surrogate, composite, register, sign, kinds, responseTag, krdTag, signedTag, assertionTag, regAssertionTag, authAssertionTag}
 use Rattle.model.specs.Layouts.{Layout, end, field, group, fields, reads}
-use Rattle.model.specs.Commands.{responseTag, judge, check, Result, refused, gave, statusOnly, info, nameList, krdTag, signedTag, keyRegistrationData, signedData}
-use Rattle.model.specs.Complete.{assertionTag, regAssertionTag, authAssertionTag}
+use Rattle.model.specs.Commands.{judge, check, Result, refused, gave, statusOnly, info, nameList, keyRegistrationData, signedData}
 
 -- ---- the responses that "some allowed inputs make a command or completion write"
 
@@ -64,13 +63,14 @@ parts s = partsAt 5 0 s
 unfoldable pub fieldParts : List ℕ → List Part
 fieldParts s = select (λ p. not (holds (p .tag))) (parts s)
 
--- listed names have different KeyIDs, as their records have
+-- the bytes of a part's value
 abbrev pub cut : List ℕ → Part → List ℕ
 cut s p = take (p .size) (drop (p .place) s)
 
 abbrev pub isHandle : ℕ → Bool
 isHandle t = eqb t (tagOf keyHandle)
 
+-- listed names have different KeyIDs, as their records have
 abbrev pub listedKeys : List ℕ → List (List ℕ)
 listedKeys s = map (cut s) (select (λ p. isHandle (p .tag)) (fieldParts s))
 

@@ -6,7 +6,7 @@ use mathlib.Core.Option.{Option, none, some, Option·getD, bind}
 use lib.ListN.{length, getD}
 use lib.Dec.{leb}
 use Rattle.model.specs.Lists.{all, select, eqBytes, distinct}
-use Rattle.model.specs.Tlv.{num, le, Tlv, tlvs, fits, keyId, mixedToken, username, counter}
+use Rattle.model.specs.Tlv.{num, le, Tlv, tlvs, pairTag, fits, keyId, mixedToken, username, counter}
 use Rattle.model.specs.Layouts.{Layout, end, group, fields, write, matches}
 
 -- "A record has a KeyID .., a mixed token .., a username .. and a 32-bit SignCounter"; a table is records, "oldest first"
@@ -19,6 +19,7 @@ pub record Record : Type 0 where
 abbrev pub Table : Type 0
 Table = List Record
 
+-- the greatest number of 32 bits
 abbrev pub maxCount : ℕ
 maxCount = 4294967295
 
@@ -47,9 +48,6 @@ tableOk t =
     leb (length t) maxRecords && all recordOk t && all (λ r. leb (length (own (r .mixed) t)) maxOwn) t && distinct (keyIds t)
 
 -- "Stored form ..: per record one USERNAME_AND_KEYHANDLE holding KEYID, KEYHANDLE_ACCESS_TOKEN .., USERNAME, COUNTERS (4 bytes)"
-abbrev pub pairTag : ℕ
-pairTag = 0x3802
-
 abbrev pub storedRecord : Layout
 storedRecord = group pairTag (fields (keyId ∷ mixedToken ∷ username ∷ counter ∷ [])) end
 

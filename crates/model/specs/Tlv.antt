@@ -72,6 +72,78 @@ wellFormed (suc n) s = isRun (all (λ t. cond (composite (t .tag)) (wellFormed n
 abbrev pub levelsInChild : ℕ
 levelsInChild = 6
 
+-- of a child that a command doesn't list: "refused if critical, else skipped, but a skipped composite must still be well formed"
+abbrev pub skippable : Tlv → Bool
+skippable c = not (critical (c .tag)) && cond (composite (c .tag)) (wellFormed levelsInChild (c .value)) true
+
+-- "A command is at most 8,192 bytes"
+abbrev pub maxCommand : ℕ
+maxCommand = 8192
+
+-- "its TLV ends with the lent bytes"
+abbrev pub fills : List ℕ → Bool
+fills s = eqb (4 + num (take 2 (drop 2 s))) (length s)
+
+-- ---- the five commands, and the tags; a field's tag stands with its rule, below
+
+pub data Kind : Type 0 where
+  getInfo register sign deregister openSettings : Kind
+
+abbrev pub kinds : List Kind
+kinds = getInfo ∷ register ∷ sign ∷ deregister ∷ openSettings ∷ []
+
+-- "GETINFO 0x3401/0x3601, REGISTER 0x3402/0x3602, SIGN 0x3403/0x3603, DEREGISTER 0x3404/0x3604, OPEN_SETTINGS 0x3406/0x3606"
+abbrev pub commandTag : Kind → ℕ
+commandTag getInfo = 0x3401
+commandTag register = 0x3402
+commandTag sign = 0x3403
+commandTag deregister = 0x3404
+commandTag openSettings = 0x3406
+
+abbrev pub responseTag : Kind → ℕ
+responseTag getInfo = 0x3601
+responseTag register = 0x3602
+responseTag sign = 0x3603
+responseTag deregister = 0x3604
+responseTag openSettings = 0x3606
+
+-- "AUTHENTICATOR_ASSERTION 0x280F, .. USERNAME_AND_KEYHANDLE 0x3802, AUTHENTICATOR_INFO 0x3811"
+abbrev pub assertionTag : ℕ
+assertionTag = 0x280F
+
+abbrev pub pairTag : ℕ
+pairTag = 0x3802
+
+abbrev pub infoTag : ℕ
+infoTag = 0x3811
+
+-- "REG_ASSERTION 0x3E01, AUTH_ASSERTION 0x3E02, KRD 0x3E03, SIGNED_DATA 0x3E04"
+abbrev pub regAssertionTag : ℕ
+regAssertionTag = 0x3E01
+
+abbrev pub authAssertionTag : ℕ
+authAssertionTag = 0x3E02
+
+abbrev pub krdTag : ℕ
+krdTag = 0x3E03
+
+abbrev pub signedTag : ℕ
+signedTag = 0x3E04
+
+-- "BASIC_FULL 0x3E07, BASIC_SURROGATE 0x3E08", which are the two attestation types
+abbrev pub full : ℕ
+full = 0x3E07
+
+abbrev pub surrogate : ℕ
+surrogate = 0x3E08
+
+-- the command that the outer tag names; "fewer than 4 bytes or an outer tag that is none of the five" name none
+abbrev pub isCommand : List ℕ → Kind → Bool
+isCommand s k = leb 4 (length s) && eqb (num (take 2 s)) (commandTag k)
+
+unfoldable pub kindOf : List ℕ → Option Kind
+kindOf s = first (select (isCommand s) kinds)
+
 -- ---- the fields, one table for all: a tag, the least and the greatest length of the value, and what else is asked of it
 
 pub record Rule : Type 0 where
@@ -83,6 +155,7 @@ pub record Rule : Type 0 where
 abbrev pub rule : ℕ → ℕ → ℕ → (List ℕ → Bool) → Rule
 rule t m n p = record { tag = t; least = m; most = n; allowed = p }
 
+-- any value between two lengths; this value alone
 abbrev pub sized : ℕ → ℕ → ℕ → Rule
 sized t m n = rule t m n (λ v. true)
 
@@ -91,25 +164,14 @@ exactly t v = rule t (length v) (length v) (eqBytes v)
 
 -- in commands; in records; lent; in responses and drafts
 pub data Field : Type 0 where
-  index appId challengeHash username attestationType accessToken keyHandle keyId keyIdOrNone : Field
+  index appId challengeHash username attestationType accessToken keyHandle keyIdOrNone : Field
   userVerifyToken transactionContent : Field
-  mixedToken counter : Field
+  keyId mixedToken counter : Field
   aaid metadata publicKey nonce : Field
   apiVersion contentType assertionScheme fullType surrogateType noCounts newCount signature certificate : Field
   statusAmong : List ℕ → Field
   assertionInfo : ℕ → ℕ → Field
   contentHash : Bool → Field
-
--- "A command is at most 8,192 bytes"
-abbrev pub maxCommand : ℕ
-maxCommand = 8192
-
--- the two attestation types, BASIC_FULL and BASIC_SURROGATE
-abbrev pub full : ℕ
-full = 0x3E07
-
-abbrev pub surrogate : ℕ
-surrogate = 0x3E08
 
 -- the letters of text/plain and of UAFV1TLV
 abbrev pub textPlain : List ℕ
@@ -126,10 +188,10 @@ ruleOf username = sized 0x2806 1 128
 ruleOf attestationType = sized 0x2807 2 2
 ruleOf accessToken = sized 0x2805 1 32
 ruleOf keyHandle = sized 0x2801 32 32
-ruleOf keyId = sized 0x2E09 32 32
 ruleOf keyIdOrNone = rule 0x2E09 0 32 (λ v. eqb (length v) 0 || eqb (length v) 32)
 ruleOf userVerifyToken = sized 0x2803 0 maxCommand
 ruleOf transactionContent = sized 0x2810 0 maxCommand
+ruleOf keyId = sized 0x2E09 32 32
 ruleOf mixedToken = sized 0x2805 32 32
 ruleOf counter = sized 0x2E0D 4 4
 ruleOf aaid = sized 0x2E0B 9 9
@@ -149,36 +211,18 @@ ruleOf (statusAmong ns) = rule 0x2808 2 2 (λ v. among v (map (le 2) ns))
 ruleOf (assertionInfo size mode) = rule 0x2E0E size size (λ v. eqb (getD v 2 0) mode)
 ruleOf (contentHash given) = cond given (sized 0x2E10 32 32) (sized 0x2E10 0 0)
 
+-- status OK, beside other fields
 abbrev pub ok : Field
 ok = statusAmong (0x00 ∷ [])
 
 abbrev pub tagOf : Field → ℕ
 tagOf f = ruleOf f .tag
 
+-- a value obeys its field's rule
 unfoldable pub fits : Field → List ℕ → Bool
 fits f v = leb (ruleOf f .least) (length v) && leb (length v) (ruleOf f .most) && ruleOf f .allowed v
 
--- ---- the five commands and the children that each lists
-
-pub data Kind : Type 0 where
-  getInfo register sign deregister openSettings : Kind
-
-abbrev pub kinds : List Kind
-kinds = getInfo ∷ register ∷ sign ∷ deregister ∷ openSettings ∷ []
-
-abbrev pub commandTag : Kind → ℕ
-commandTag getInfo = 0x3401
-commandTag register = 0x3402
-commandTag sign = 0x3403
-commandTag deregister = 0x3404
-commandTag openSettings = 0x3406
-
--- the command that the outer tag names; "fewer than 4 bytes or an outer tag that is none of the five" name none
-abbrev pub isCommand : List ℕ → Kind → Bool
-isCommand s k = leb 4 (length s) && eqb (num (take 2 s)) (commandTag k)
-
-unfoldable pub kindOf : List ℕ → Option Kind
-kindOf s = first (select (isCommand s) kinds)
+-- ---- the children that each command lists
 
 -- a listed child: its field, and how often it must and may be given: "at most once, KEYHANDLE excepted"
 pub record Listed : Type 0 where
@@ -206,16 +250,14 @@ fieldsOf sign =
 fieldsOf deregister = mandatory index ∷ optional appId ∷ mandatory keyIdOrNone ∷ mandatory accessToken ∷ []
 fieldsOf openSettings = mandatory index ∷ []
 
--- a child is listed or skippable: "refused if critical, else skipped, but a skipped composite must still be well formed"
-abbrev pub skippable : Tlv → Bool
-skippable c = not (critical (c .tag)) && cond (composite (c .tag)) (wellFormed levelsInChild (c .value)) true
+-- the listed child with this tag, if the command lists one
+abbrev pub listed : List Listed → ℕ → Option Listed
+listed fs t = first (select (λ f. eqb (tagOf (f .field)) t) fs)
 
+-- a child obeys its field's rule if it is listed, else it is skippable
 abbrev pub childOk : Tlv → Option Listed → Bool
 childOk c none = skippable c
 childOk c (some f) = fits (f .field) (c .value)
-
-abbrev pub listed : List Listed → ℕ → Option Listed
-listed fs t = first (select (λ f. eqb (tagOf (f .field)) t) fs)
 
 -- the values of the children with a field's tag, in their order
 abbrev pub valuesOf : Field → List Tlv → List (List ℕ)
@@ -226,14 +268,11 @@ timesOk ts f =
     let n = length (valuesOf (f .field) ts) in
     leb (f .least) n && leb n (f .most)
 
+-- each child is allowed, and each listed one is given as often as it must and may be
 unfoldable pub childrenOk : List Listed → List Tlv → Bool
 childrenOk fs ts = all (λ c. childOk c (listed fs (c .tag))) ts && all (timesOk ts) fs
 
--- "its TLV ends with the lent bytes"
-abbrev pub fills : List ℕ → Bool
-fills s = eqb (4 + num (take 2 (drop 2 s))) (length s)
-
--- a command's children, after its four header bytes, if it does and its value is a run
+-- a command's children, after its four header bytes, if its TLV ends with the lent bytes and its value is a run
 unfoldable pub children : List ℕ → Option (List Tlv)
 children s = cond (fills s) (tlvs (drop 4 s)) none
 

@@ -44,6 +44,10 @@ isOf h s = eqBytes (mixedOf (s .call)) h
 unfoldable pub callsOf : List ℕ → List Step → List Call
 callsOf h ss = map (λ s. s .call) (select (isOf h) ss)
 
+-- "A Register is one by its outer tag, refused or not"
+abbrev pub registers : Step → Bool
+registers s = isCommand (s .call .command) register
+
 -- "Compared .. are the refusal number, or else whether it wrote a response or a draft, the length and every byte of it", and the
 -- holder's records "after each of its commands"
 abbrev pub answered : Result Effect → Result Answer
@@ -59,10 +63,6 @@ observe h [] t = []
 observe h (s ∷ ss) t =
     let rest = observe h ss (next s t) in
     cond (isOf h s) (record { answer = answered (result s t); records = own h (next s t) } ∷ rest) rest
-
--- "A Register is one by its outer tag, refused or not"
-abbrev pub registers : Step → Bool
-registers s = isCommand (s .call .command) register
 
 -- each Register "is lent a KeyID that no earlier one was lent"; seen: those lent so far
 unfoldable pub fresh : List (List ℕ) → List Step → Bool

@@ -11,10 +11,9 @@ use lib.Seq.{drop-drop}
 use lib.Dec.{leb, eqb}
 use borrow.Author.Tests.{leb-true, leb-false, eqb-true, eqb-false, le-leb, lt-leb, eq-eqb, ne-eqb}
 use Rattle.model.specs.Lists.{any, select, distinct}
-use Rattle.model.specs.Tlv.{tagOf, ok, username, keyHandle, sign}
-use Rattle.model.specs.Records.{pairTag}
+use Rattle.model.specs.Tlv.{tagOf, ok, username, keyHandle, sign, pairTag, responseTag}
 use Rattle.model.specs.Layouts.{Layout, end, fields, reads}
-use Rattle.model.specs.Commands.{responseTag, nameRows, nameList}
+use Rattle.model.specs.Commands.{nameRows, nameList}
 use Rattle.model.specs.Reader.{Part, holds, partsAt, fieldParts, listedKeys, listLengths, isHandle}
 use Rattle.model.proofs.Basics.{split, and-left, both, select-append}
 use Rattle.model.proofs.LayoutLaws.{fits-least, fits-most}

@@ -9,9 +9,9 @@ use lib.ListN.{length}
 use lib.Dec.{eqb}
 use borrow.Author.Tests.{eq-eqb, ne-eqb}
 use Rattle.model.specs.Lists.{all, any, select, distinct}
-use Rattle.model.specs.Tlv.{Kind, getInfo, register, sign, deregister, openSettings, kinds, signature, certificate, full, surrogate}
+use Rattle.model.specs.Tlv.{Kind, getInfo, register, sign, deregister, openSettings, kinds, signature, certificate, full, surrogate, responseTag}
 use Rattle.model.specs.Layouts.{Layout, reads}
-use Rattle.model.specs.Commands.{responseTag, statusOnly, info, nameList}
+use Rattle.model.specs.Commands.{statusOnly, info, nameList}
 use Rattle.model.specs.Reader.{asserted, registered, signed, responses, holds, parts, fieldParts, listedKeys, isResponse, isHandle, listLengths}
 use Rattle.model.proofs.Basics.{split, and-left, and-right, select-comm, NoneOf}
 use Rattle.model.proofs.PartLaws.{honest, lacks}

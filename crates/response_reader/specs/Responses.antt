@@ -5,9 +5,8 @@ use mathlib.Core.Bool.{not}
 use mathlib.Core.List.{List, [], map}
 use lib.Dec.{eqb}
 use Rattle.model.specs.Lists.{select}
-use Rattle.model.specs.Tlv.{ok}
+use Rattle.model.specs.Tlv.{ok, assertionTag}
 use Rattle.model.specs.Commands.{nameRows}
-use Rattle.model.specs.Complete.{assertionTag}
 use Rattle.model.specs.Reader.{Part, holds, cut, isHandle}
 use Rattle.columns.specs.Columns.{rows}
 use Rattle.layouts.specs.Places.{readsAt, afterField, inGroup}

@@ -6,10 +6,10 @@ use mathlib.Core.List.{List, [], _∷_, _++_}
 use Prim.Native.Nat.{ℕ, _+_, _-_, _≤_}
 use native.Mathlib.Omega.{arith}
 use lib.ListN.{length}
-use Rattle.model.specs.Tlv.{le, tlv, bytes, header, Kind, full, surrogate, textPlain, uafV1Tlv, contentHash, tagOf}
+use Rattle.model.specs.Tlv.{le, tlv, bytes, header, Kind, full, surrogate, textPlain, uafV1Tlv, contentHash, tagOf, infoTag, krdTag, signedTag, responseTag}
 use Rattle.model.specs.Layouts.{fill, write}
 use Rattle.model.specs.Records.{Table}
-use Rattle.model.specs.Commands.{krdTag, signedTag, responseTag, statusOnly, infoResponse, nameRows, nameFields, nameResponse}
+use Rattle.model.specs.Commands.{statusOnly, infoResponse, nameRows, nameFields, nameResponse}
 use Rattle.tlv.specs.Writing.{Wrote}
 use Rattle.tlv.proofs.WriteLaws.{same, then-run, then-value, header-last, from-front}
 use Rattle.table_bytes.specs.Pairs.{pairsOf}
@@ -30,7 +30,7 @@ module _ {d d₁ d₂ : List ℕ} {a₁ a₂ : ℕ} (k : Kind) (n : ℕ) where
 module _ {d d₁ d₂ d₃ d₄ d₅ d₆ d₇ d₈ : List ℕ} {at a₁ a₂ a₃ a₄ a₅ a₆ a₇ a₈ : ℕ} (a m : List ℕ) where
   -- a header, and the seven fields one after the other
   pub wrote-inside : length a ≡ 9 → length m ≡ 15
-      → Wrote d at (header 0x3811 75) 4 d₁ a₁
+      → Wrote d at (header infoTag 75) 4 d₁ a₁
       → Wrote d₁ a₁ (bytes (tlv 0x280D (0 ∷ []) ∷ [])) 5 d₂ a₂
       → Wrote d₂ a₂ (bytes (tlv 0x2E0B a ∷ [])) (4 + length a) d₃ a₃
       → Wrote d₃ a₃ (bytes (tlv 0x2809 m ∷ [])) (4 + length m) d₄ a₄
@@ -38,10 +38,10 @@ module _ {d d₁ d₂ d₃ d₄ d₅ d₆ d₇ d₈ : List ℕ} {at a₁ a₂ a�
       → Wrote d₅ a₅ (bytes (tlv 0x280A uafV1Tlv ∷ [])) 12 d₆ a₆
       → Wrote d₆ a₆ (bytes (tlv 0x2807 (le 2 full) ∷ [])) 6 d₇ a₇
       → Wrote d₇ a₇ (bytes (tlv 0x2807 (le 2 surrogate) ∷ [])) 6 d₈ a₈
-      → Wrote d at (bytes (tlv 0x3811 (infoInside a m) ∷ [])) 79 d₈ a₈
+      → Wrote d at (bytes (tlv infoTag (infoInside a m) ∷ [])) 79 d₈ a₈
   unfolding infoInside write fill
   wrote-inside j k p i v w x y f s =
-      then-value 0x3811 p
+      then-value infoTag p
       (same refl (omega arith)
       (then-run _ _ i (then-run _ _ v (then-run _ _ w (then-run _ _ x (then-run _ _ y (then-run _ _ f s)))))))
 
@@ -49,7 +49,7 @@ module _ {d d₁ d₂ d₃ d₄ : List ℕ} {a₁ a₂ a₃ a₄ : ℕ} (a m : L
   pub wrote-info : Wrote d 0 (header 0x3601 90) 4 d₁ a₁
       → Wrote d₁ a₁ (bytes (tlv 0x2808 (le 2 0) ∷ [])) 6 d₂ a₂
       → Wrote d₂ a₂ (bytes (tlv 0x280E (1 ∷ []) ∷ [])) 5 d₃ a₃
-      → Wrote d₃ a₃ (bytes (tlv 0x3811 (infoInside a m) ∷ [])) 79 d₄ a₄
+      → Wrote d₃ a₃ (bytes (tlv infoTag (infoInside a m) ∷ [])) 79 d₄ a₄
       → Wrote d 0 (infoResponse (lentInfo a m)) 94 d₄ a₄
   unfolding infoInside infoResponse write fill
   wrote-info p s v i = then-value 0x3601 p (then-run _ _ s (then-run _ _ v i))

@@ -7,7 +7,7 @@ ghost use mathlib.Core.Path.{_≡_};
 ghost use Prim.Native.Nat.{_+_, _≤_};
 ghost use mathlib.Core.List.{[], _∷_};
 ghost use lib.ListN.{length};
-ghost use Rattle.model.specs.Tlv.{tlv, bytes};
+ghost use Rattle.model.specs.Tlv.{tlv, bytes, infoTag};
 ghost use Rattle.model.specs.Commands.{infoResponse, leastOutput};
 ghost use Rattle.tlv.specs.Writing.{Wrote};
 ghost use Rattle.responses.specs.Lent.{lentInfo};
@@ -16,7 +16,7 @@ ghost use Rattle.responses.specs.Writes.{infoInside};
 // AUTHENTICATOR_INFO, 75 bytes and its header: index, AAID, METADATA, content type, assertion scheme, the two attestation types.
 fn put_authenticator_info(out: &mut [u8], at: usize, aaid: &[u8], metadata: &[u8]) -> usize
     requires { ⌜ (length (now aaid) ≡ 9) × (length (now metadata) ≡ 15) × (at + 79 ≤ length (now out)) ⌝ }
-    ensures { λ r. ⌜ Wrote (now (out .entry)) at (bytes (tlv 0x3811 (infoInside (now (aaid .entry)) (now (metadata .entry))) ∷ [])) 79 (now (out .exit)) r ⌝ }
+    ensures { λ r. ⌜ Wrote (now (out .entry)) at (bytes (tlv infoTag (infoInside (now (aaid .entry)) (now (metadata .entry))) ∷ [])) 79 (now (out .exit)) r ⌝ }
 {
     let a1 = put_header(out, at, tags::AUTHENTICATOR_INFO, 75);
     let a2 = put_tlv(out, a1, tags::AUTHENTICATOR_INDEX, b"\x00");

@@ -6,9 +6,9 @@ ghost use mathlib.Core.Path.{_≡_};
 ghost use Prim.Native.Nat.{_≤_};
 ghost use mathlib.Core.List.{[], _∷_};
 ghost use lib.ListN.{length};
-ghost use Rattle.model.specs.Tlv.{le};
+ghost use Rattle.model.specs.Tlv.{le, responseTag};
 ghost use Rattle.model.specs.Layouts.{write};
-ghost use Rattle.model.specs.Commands.{responseTag, statusOnly, leastOutput};
+ghost use Rattle.model.specs.Commands.{statusOnly, leastOutput};
 ghost use Rattle.tlv.specs.Writing.{Wrote};
 ghost use Rattle.command.specs.Kinds.{kindIs};
 

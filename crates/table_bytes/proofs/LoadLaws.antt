@@ -10,10 +10,10 @@ use lib.ListN.{length, drop, set, length-append, length-drop, length-set}
 use lib.Seq.{drop-length}
 use borrow.Author.Tests.{lt-leb, ne-eqb}
 use Rattle.model.specs.Lists.{all}
-use Rattle.model.specs.Tlv.{num, Tlv, tlv, tlvs, tlvsPast, isRun, Field, keyId, mixedToken, username, counter}
+use Rattle.model.specs.Tlv.{num, Tlv, tlv, tlvs, tlvsPast, isRun, Field, keyId, mixedToken, username, counter, pairTag}
 use Rattle.model.specs.Layouts.{Layout, end, field, fields, matches}
 use Rattle.model.specs.Records as model
-use Rattle.model.specs.Records.{maxRecords, tableOk, pairTag, storedRecord, storedAs, decode}
+use Rattle.model.specs.Records.{maxRecords, tableOk, storedRecord, storedAs, decode}
 use Rattle.model.proofs.Basics.{split}
 use Rattle.tlv.specs.Numbers.{numAt}
 use Rattle.tlv.specs.Heads.{headAt, between, part}

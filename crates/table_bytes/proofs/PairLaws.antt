@@ -7,10 +7,9 @@ use native.Mathlib.Numerals.{add-one}
 use native.Mathlib.Omega.{arith}
 use lib.ListN.{length, getD, take}
 use lib.Seq.{take-suc}
-use Rattle.model.specs.Tlv.{tlv, bytes, header}
+use Rattle.model.specs.Tlv.{tlv, bytes, header, pairTag}
 use Rattle.model.specs.Layouts.{fill, write}
 use Rattle.model.specs.Records as model
-use Rattle.model.specs.Records.{pairTag}
 use Rattle.tlv.specs.Writing.{Wrote}
 use Rattle.tlv.proofs.WriteLaws.{then, then-run, then-value, same, wrote-none}
 use Rattle.columns.proofs.FirstLaws.{firsts-take}

@@ -6,10 +6,10 @@ use Prim.Native.Nat.{ℕ, _+_, _≤_, _<_}
 use native.Mathlib.Omega.{arith}
 use lib.ListN.{length, getD, take}
 use lib.Seq.{take-all}
-use Rattle.model.specs.Tlv.{le, Tlv, tlv, bytes, header}
+use Rattle.model.specs.Tlv.{le, Tlv, tlv, bytes, header, pairTag}
 use Rattle.model.specs.Layouts.{fill, write}
 use Rattle.model.specs.Records as model
-use Rattle.model.specs.Records.{pairTag, encode}
+use Rattle.model.specs.Records.{encode}
 use Rattle.tlv.specs.Writing.{Wrote}
 use Rattle.tlv.proofs.WriteLaws.{then, then-run, then-value, same, wrote-none}
 use Rattle.columns.proofs.FirstLaws.{firsts-take}

@@ -5,10 +5,10 @@ use mathlib.Core.Bool.{cond}
 use mathlib.Core.List.{List, [], _∷_}
 use mathlib.Core.Option.{Option, none, some}
 use lib.ListN.{length}
-use Rattle.model.specs.Tlv.{tlv}
+use Rattle.model.specs.Tlv.{tlv, pairTag}
 use Rattle.model.specs.Layouts.{matches}
 use Rattle.model.specs.Records as model
-use Rattle.model.specs.Records.{pairTag, storedRecord, storedAs, tableOk}
+use Rattle.model.specs.Records.{storedRecord, storedAs, tableOk}
 use Rattle.tlv.specs.Numbers.{numAt}
 use Rattle.tlv.specs.Heads.{part}
 use Rattle.tlv.specs.Spans.{Inside}
