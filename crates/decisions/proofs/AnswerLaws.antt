@@ -1,7 +1,7 @@
 -- What a command decides: by its checks, by a status alone, and GetInfo, open settings, Register and Deregister.
 -- Assumes nothing.
 use mathlib.Core.Path.{_≡_, refl, sym, ap, subst, _∙_}
-use mathlib.Core.Bool.{Bool, true, false, not, cond, _||_}
+use mathlib.Core.Bool.{Bool, true, false, cond}
 use mathlib.Core.List.{List, [], _∷_, append-assoc}
 use mathlib.Core.Option.{some}
 use Prim.Native.Nat.{ℕ, _≤_}
@@ -9,12 +9,11 @@ use native.Mathlib.Omega.{arith}
 use lib.ListN.{length}
 use lib.Dec.{leb}
 use borrow.Author.Tests.{leb-false}
-use Rattle.model.specs.Lists.{empty, among}
 use Rattle.model.specs.Tlv.{Kind, getInfo, register, deregister, openSettings, Field, ruleOf, tagOf, fieldsOf, listed, mandatory, challengeHash, username, keyIdOrNone, broken, fieldIn}
 use Rattle.model.specs.Records as records
-use Rattle.model.specs.Records.{own, keyIds, maxOwn, maxRecords}
+use Rattle.model.specs.Records.{own, maxOwn, maxRecords}
 use Rattle.model.specs.Commands as model
-use Rattle.model.specs.Commands.{Lent, Check, check, judge, only, keep, infoResponse, decideGetInfo, decideOpenSettings, registerChecks, registerDraft, decideRegister, decideDeregister, response, draft, add}
+use Rattle.model.specs.Commands.{Lent, Check, judge, deregisterChecks, only, keep, infoResponse, decideGetInfo, decideOpenSettings, registerChecks, registerDraft, decideRegister, decideDeregister, response, draft, add}
 use Rattle.model.proofs.Basics.{split, Passed, passes, or-right}
 use Rattle.model.proofs.Fields.{field-fits}
 use Rattle.model.proofs.LayoutLaws.{fits-most}
@@ -186,22 +185,17 @@ registered s a n m key public c t taken {f} q e o h k g w =
 
 -- ---- Deregister
 
--- the checks
-abbrev deregisters : List ℕ → records.Table → List Check
-deregisters s mine =
-    check 0x08 (broken deregister s) ∷ check 0x02 (not (empty (fieldIn keyIdOrNone s) || among (fieldIn keyIdOrNone s) (keyIds mine))) ∷ []
-
 -- j is what the code's judgment gave
-module _ (s : List ℕ) (mine : records.Table) {j : Judged} (e : j ≡ judge (deregisters s mine) Fails Passes) where
+module _ (s : List ℕ) (mine : records.Table) {j : Judged} (e : j ≡ judge (deregisterChecks s mine) Fails Passes) where
   pub deregister-fails : {i : ℕ} → j ≡ Fails i → decideDeregister s mine ≡ only deregister keep i
   unfolding decideDeregister
-  deregister-fails {i} f = judge-fails (deregisters s mine) (only deregister keep) _ i (sym e ∙ f)
+  deregister-fails {i} f = judge-fails (deregisterChecks s mine) (only deregister keep) _ i (sym e ∙ f)
 
   -- what is removed is told by the command's KeyID
   pub deregister-passes : {f : Fields} → Answers deregister s f → j ≡ Passes
       → (Inside s (f .«key_id»)) × (decideDeregister s mine ≡ only deregister (removal (part s (f .«key_id»))) 0x00)
   unfolding decideDeregister
   deregister-passes {f} a o =
-      let p : Passed (deregisters s mine) = judge-passed (deregisters s mine) (sym e ∙ o) in
+      let p : Passed (deregisterChecks s mine) = judge-passed (deregisterChecks s mine) (sym e ∙ o) in
       let k : Placed s keyIdOrNone (f .«key_id») = a .unless-broken (p .0) .key-id in
-      (k .inside, rw (k .value) (passes (deregisters s mine) (only deregister keep) _ p))
+      (k .inside, rw (k .value) (passes (deregisterChecks s mine) (only deregister keep) _ p))

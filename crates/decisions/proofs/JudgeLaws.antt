@@ -11,7 +11,7 @@ use borrow.Author.Tests.{eq-eqb, lt-ltb}
 use Rattle.model.specs.Lists.{empty}
 use Rattle.model.specs.Tlv.{num, fits, aaid, metadata, Field, attestationType, full, surrogate, register, broken, fieldIn}
 use Rattle.model.specs.Records.{Table, maxOwn}
-use Rattle.model.specs.Commands.{Lent, profileOk, judge, verdictStatus, displayStatus, registerChecks}
+use Rattle.model.specs.Commands.{Lent, profileOk, judge, verdictStatuses, verdictStatus, displayStatuses, displayStatus, registerChecks}
 use Rattle.model.proofs.Fields.{field-fits}
 use Rattle.model.proofs.LayoutLaws.{fits-least, fits-most}
 use Rattle.tlv.specs.Numbers.{NumberAt}
@@ -41,17 +41,11 @@ no-status : (ss : List ℕ) (x : ℕ) → NoPlace (Unit {0}) x 1 ss → 0 ≡ ge
 no-status ss zero h = refl
 no-status ss (suc k) h = sym (past-end (Unit {0}) (suc k) 1 k ss (omega arith) h)
 
-abbrev pub verdicts : List ℕ
-verdicts = 0x02 ∷ 0x03 ∷ 0x05 ∷ 0x0E ∷ 0x10 ∷ []
+pub no-verdict : (v : ℕ) → NoPlace (Unit {0}) v 1 verdictStatuses → 0 ≡ verdictStatus v
+no-verdict v h = no-status verdictStatuses v h
 
-pub no-verdict : (v : ℕ) → NoPlace (Unit {0}) v 1 verdicts → 0 ≡ verdictStatus v
-no-verdict v h = no-status verdicts v h
-
-abbrev pub displays : List ℕ
-displays = 0x05 ∷ 0x04 ∷ 0x0E ∷ []
-
-pub no-display : (d : ℕ) → NoPlace (Unit {0}) d 1 displays → 0 ≡ displayStatus d
-no-display d h = no-status displays d h
+pub no-display : (d : ℕ) → NoPlace (Unit {0}) d 1 displayStatuses → 0 ≡ displayStatus d
+no-display d h = no-status displayStatuses d h
 
 -- ---- Register: the attestation type
 
@@ -92,11 +86,11 @@ placed-empty s f p h = ap empty (sym (h .value)) ∙ part-empty (h .inside)
 
 -- ---- the profile, whose numbers have 16 bits by their type
 
-and-true : (b : Bool) {c : Bool} → c ≡ true → (b && c) ≡ b
-and-true true e = e
-and-true false e = refl
+and-known : (b : Bool) {c : Bool} → c ≡ true → (b && c) ≡ b
+and-known true e = e
+and-known false e = refl
 
 pub profile-is : (l : Lent) → l .version < 65536 → l .signatureAlgorithm < 65536 → l .keyAlgorithm < 65536
     → profileOk l ≡ (fits aaid (l .aaid) && fits metadata (l .metadata))
 unfolding profileOk
-profile-is l v s k = and-true _ (lt-ltb _ _ k) ∙ and-true _ (lt-ltb _ _ s) ∙ and-true _ (lt-ltb _ _ v)
+profile-is l v s k = and-known _ (lt-ltb _ _ k) ∙ and-known _ (lt-ltb _ _ s) ∙ and-known _ (lt-ltb _ _ v)

@@ -1,7 +1,7 @@
 -- What Sign decides: on one chosen record, and by how many are chosen.
 -- Assumes nothing.
 use mathlib.Core.Path.{_≡_, refl, sym, ap, _∙_}
-use mathlib.Core.Bool.{Bool, true, false, not, _&&_, _||_}
+use mathlib.Core.Bool.{Bool, true, false, not, _||_}
 use mathlib.Core.List.{List, [], _∷_, map}
 use mathlib.Core.Option.{some}
 use Prim.Native.Nat.{ℕ, zero, suc, _+_, _≤_, _<_}
@@ -16,7 +16,7 @@ use Rattle.model.specs.Lists.{select, first, empty, among}
 use Rattle.model.specs.Tlv.{sign, challengeHash, transactionContent, keyHandle, broken, fieldsIn, fieldIn}
 use Rattle.model.specs.Records as records
 use Rattle.model.specs.Records.{maxCount, tableOk, own, hasMixed}
-use Rattle.model.specs.Commands.{Lent, Check, check, judge, only, keep, response, displayStatus, verdictStatus, hasContent, signDraft, signOne, chosen, nameResponse, signChosen, decideSign}
+use Rattle.model.specs.Commands.{Lent, judge, only, keep, response, userChecks, oneChecks, hasContent, signDraft, signOne, chosen, nameResponse, signChosen, decideSign}
 use Rattle.model.proofs.Basics.{and-left, first-passes, length-select}
 use Rattle.model.proofs.Rules.{obeys-rules}
 use Rattle.tlv.specs.Heads.{part}
@@ -58,17 +58,12 @@ content-is {s} {p} h = ap not (sym (part-empty (h .inside))) ∙ rw (h .value)
 
 -- ---- one record
 
--- the checks
-abbrev signs : Bool → Numbers → Record → List Check
-signs content n r =
-    check (displayStatus (n .display)) (content && not (eqb (n .display) 0)) ∷ check 0x01 (eqb (r .count) maxCount) ∷ []
-
 -- where they pass, a counter of 32 bits can rise
 pub count-rises : (f : Fields) (n : Numbers) (r : Record) {j : Judged}
-    → j ≡ judge (signs (filled (f .«transaction_content»)) n r) Fails Passes → j ≡ Passes
+    → j ≡ judge (oneChecks (filled (f .«transaction_content»)) (n .display) (r .count)) Fails Passes → j ≡ Passes
     → r .count < 4294967296 → r .count + 1 < 4294967296
 count-rises f n r e o h =
-    let p = judge-passed (signs (filled (f .«transaction_content»)) n r) (sym e ∙ o) in
+    let p = judge-passed (oneChecks (filled (f .«transaction_content»)) (n .display) (r .count)) (sym e ∙ o) in
     omega (arith, eqb-false (r .count) maxCount (p .1 .0))
 
 -- the draft of the definition
@@ -80,13 +75,13 @@ sign-draft s a n m nonce hash r = rw add-one
 
 -- j is what the code's judgment gave
 module _ {s : List ℕ} {f : Fields} (a : List ℕ) (n : Numbers) (nonce hash : List ℕ) (r : Record) (row : ℕ) (placed : FieldsPlaced s f)
-    {j : Judged} (e : j ≡ judge (signs (filled (f .«transaction_content»)) n r) Fails Passes) {out out′ : List ℕ} where
+    {j : Judged} (e : j ≡ judge (oneChecks (filled (f .«transaction_content»)) (n .display) (r .count)) Fails Passes) {out out′ : List ℕ} where
   -- the status of the first that fails was written
   pub one-fails : {i : ℕ} {d : Decision} → j ≡ Fails i → StatusAlone sign i Keep out out′ d
       → DecidedAt s row r (signOne s (lentSign a n [] nonce hash) (viewRecord r)) out out′ d
   unfolding signOne
   one-fails {i} o p =
-      let q = judge-fails (signs (hasContent s) n r) (only sign keep) _ i
+      let q = judge-fails (oneChecks (hasContent s) (n .display) (r .count)) (only sign keep) _ i
       (rw (content-is (placed .transaction-content)) at (sym e ∙ o)) in
       record { decided = λ k m t g h. status-decided p tt q }
 
@@ -97,7 +92,7 @@ module _ {s : List ℕ} {f : Fields} (a : List ℕ) (n : Numbers) (nonce hash : 
   unfolding signOne
   one-passes o g w =
       let v = content-is (placed .transaction-content) in
-      let l = signs (hasContent s) n r in
+      let l = oneChecks (hasContent s) (n .display) (r .count) in
       let d = sign-draft s a n [] nonce hash r in
       record {
         decided =
@@ -182,28 +177,24 @@ chosen-one : (s a : List ℕ) (n : Numbers) (m nonce hash : List ℕ) (r : recor
 unfolding signChosen signOne signDraft
 chosen-one s a n m nonce hash r = refl
 
--- the checks
-abbrev users : Bool → Numbers → List Check
-users broken n = check 0x08 broken ∷ check (verdictStatus (n .verdict)) (not (eqb (n .verdict) 0)) ∷ []
-
 -- j is what the code's judgment gave
-module _ {s : List ℕ} {f : Fields} (n : Numbers) (q : Answers sign s f) {j : Judged} (e : j ≡ judge (users (f .broken) n) Fails Passes) where
-  judged-so : judge (users (broken sign s) n) Fails Passes ≡ j
+module _ {s : List ℕ} {f : Fields} (n : Numbers) (q : Answers sign s f) {j : Judged} (e : j ≡ judge (userChecks (f .broken) (n .verdict)) Fails Passes) where
+  judged-so : judge (userChecks (broken sign s) (n .verdict)) Fails Passes ≡ j
   judged-so = rw (← q .broken-is) (sym e)
 
   pub sign-fails : (a m nonce hash : List ℕ) (mine : records.Table) {i : ℕ} → j ≡ Fails i
       → decideSign s (lentSign a n m nonce hash) mine ≡ only sign keep i
   unfolding decideSign
-  sign-fails a m nonce hash mine {i} o = judge-fails (users (broken sign s) n) (only sign keep) _ i (judged-so ∙ o)
+  sign-fails a m nonce hash mine {i} o = judge-fails (userChecks (broken sign s) (n .verdict)) (only sign keep) _ i (judged-so ∙ o)
 
   module _ (o : j ≡ Passes) where
     pub sign-unbroken : broken sign s ≡ false
-    sign-unbroken = judge-passed (users (broken sign s) n) (judged-so ∙ o) .0
+    sign-unbroken = judge-passed (userChecks (broken sign s) (n .verdict)) (judged-so ∙ o) .0
 
     sign-passes : (a m nonce hash : List ℕ) (mine : records.Table)
         → decideSign s (lentSign a n m nonce hash) mine ≡ signChosen s (lentSign a n m nonce hash) (chosen (fieldsIn keyHandle s) mine)
     unfolding decideSign
-    sign-passes a m nonce hash mine = judge-passes (users (broken sign s) n) (only sign keep) _ (judged-so ∙ o)
+    sign-passes a m nonce hash mine = judge-passes (userChecks (broken sign s) (n .verdict)) (only sign keep) _ (judged-so ∙ o)
 
     -- by how many are chosen
     module _ (a nonce hash : List ℕ) {m : List ℕ} {t : Table} {rows : Rows} (w : Chose s m t rows) where

@@ -13,26 +13,22 @@ use responses::status::PARAMS_INVALID;
 use tlv::heads::part_of;
 ghost use mathlib.Core.Path.{_≡_};
 ghost use Prim.Native.Nat.{ℕ, _≤_};
-ghost use mathlib.Core.Bool.{not, _||_};
-ghost use mathlib.Core.List.{List, [], _∷_};
+ghost use mathlib.Core.List.{List};
 ghost use lib.ListN.{length};
-ghost use Rattle.model.specs.Lists.{empty, among};
-ghost use Rattle.model.specs.Tlv.{deregister, keyIdOrNone, broken, fieldIn};
-ghost use Rattle.model.specs.Records.{own, keyIds};
-ghost use Rattle.model.specs.Commands.{check, judge, decideDeregister, leastOutput};
+ghost use Rattle.model.specs.Tlv.{deregister};
+ghost use Rattle.model.specs.Records.{own};
+ghost use Rattle.model.specs.Commands.{judge, deregisterChecks, decideDeregister, leastOutput};
 ghost use Rattle.command.specs.Parse.{Answers};
 ghost use Rattle.key_table.specs.Views.{viewTable};
 ghost use Rattle.decisions.specs.Answers.{Decided};
 ghost use Rattle.decisions.specs.declared.answers.Judged.the-variants.{Fails, Passes};
 
-// An empty KeyID always passes; any other must be one of the caller's.
+// Deregister's statuses in their order: a rule broken, then a KeyID that is not the caller's. An empty one always passes.
 fn judge_deregister(s: &[u8], f: Fields, mixed: &[u8], t: Table) -> Judged
     requires { ⌜ Answers deregister (now s) f ⌝ }
     requires { ⌜ t .len ≤ 32 ⌝ }
     ensures { λ r. ⌜
-        r ≡ judge (check 0x08 (broken deregister (now (s .entry)))
-        ∷ check 0x02 (not (empty (fieldIn keyIdOrNone (now (s .entry))) || among (fieldIn keyIdOrNone (now (s .entry))) (keyIds
-        (own (now (mixed .entry)) (viewTable t))))) ∷ []) Fails Passes ⌝ }
+        r ≡ judge (deregisterChecks (now (s .entry)) (own (now (mixed .entry)) (viewTable t))) Fails Passes ⌝ }
 {
     if f.broken {
         return Judged::Fails(PARAMS_INVALID);

@@ -20,13 +20,12 @@ use responses::status::PARAMS_INVALID;
 use tlv::heads::part_of;
 ghost use mathlib.Core.Path.{_≡_};
 ghost use Prim.Native.Nat.{ℕ, _≤_};
-ghost use mathlib.Core.Bool.{true, false, not, _&&_};
-ghost use mathlib.Core.List.{List, [], _∷_};
-ghost use lib.Dec.{eqb};
+ghost use mathlib.Core.Bool.{true, false};
+ghost use mathlib.Core.List.{List, []};
 ghost use lib.ListN.{length};
 ghost use Rattle.model.specs.Tlv.{sign, broken};
-ghost use Rattle.model.specs.Records.{tableOk, own, maxCount};
-ghost use Rattle.model.specs.Commands.{check, judge, verdictStatus, displayStatus, signOne, decideSign, leastOutput};
+ghost use Rattle.model.specs.Records.{tableOk, own};
+ghost use Rattle.model.specs.Commands.{judge, userChecks, oneChecks, signOne, decideSign, leastOutput};
 ghost use Rattle.command.specs.Parse.{FieldsPlaced};
 ghost use Rattle.key_table.specs.Views.{viewRecord, viewTable};
 ghost use Rattle.responses.specs.Lent.{lentSign};
@@ -35,7 +34,7 @@ ghost use Rattle.decisions.specs.declared.answers.Judged.the-variants.{F
 
 // Sign's statuses before the choice: a rule broken, then the verdict.
 fn judge_sign(broken: bool, verdict: u8) -> Judged
-    ensures { λ r. ⌜ r ≡ judge (check 0x08 broken ∷ check (verdictStatus verdict) (not (eqb verdict 0)) ∷ []) Fails Passes ⌝ }
+    ensures { λ r. ⌜ r ≡ judge (userChecks broken verdict) Fails Passes ⌝ }
 {
     if broken {
         return Judged::Fails(PARAMS_INVALID);
@@ -48,7 +47,7 @@ fn judge_sign(broken: bool, verdict: u8) -> Judged
 
 // The display result, which counts with content only, then the counter.
 fn judge_one(content: bool, display: u8, count: u32) -> Judged
-    ensures { λ r. ⌜ r ≡ judge (check (displayStatus display) (content && not (eqb display 0)) ∷ check 0x01 (eqb count maxCount) ∷ []) Fails Passes ⌝ }
+    ensures { λ r. ⌜ r ≡ judge (oneChecks content display count) Fails Passes ⌝ }
 {
     if content {
         if display != 0 {

@@ -12,7 +12,7 @@ use Rattle.model.specs.Lists.{all, any, select, empty, eqBytes, among, d
 use Rattle.model.specs.Tlv.{le, fits, aaid, metadata, challengeHash, keyId, publicKey, username, nonce, contentHash, keyHandle, newCount, Kind, getInfo, register, sign, deregister, openSettings, kinds, broken, fieldsIn, fieldIn, responseTag}
 use Rattle.model.specs.Layouts.{Layout, end, size}
 use Rattle.model.specs.Records.{Record, Table, recordOk, hasMixed, own, keyIds, maxCount, maxOwn}
-use Rattle.model.specs.Commands.{statuses, bytesOf, Lent, profileOk, lentOk, Call, mixedOf, Given, Check, judge, gave, Answer, response, draft, Change, keep, Decision, Effect, statusOnly, only, info, infoFields, infoResponse, decideGetInfo, keyRegistrationData, registerFields, registerDraft, registerChecks, decideRegister, chosen, nameRows, nameList, nameFields, nameResponse, signedData, hasContent, signFields, signDraft, signOne, signChosen, decideSign, decideDeregister, decideOpenSettings, decide, perform, kind, outcome, leastOutput}
+use Rattle.model.specs.Commands.{statuses, verdictStatuses, displayStatuses, bytesOf, Lent, profileOk, lentOk, Call, mixedOf, Given, Check, judge, gave, Answer, response, draft, Change, keep, Decision, Effect, statusOnly, only, info, infoFields, infoResponse, decideGetInfo, keyRegistrationData, registerFields, registerDraft, registerChecks, decideRegister, chosen, nameRows, nameList, nameFields, nameResponse, signedData, hasContent, signFields, signDraft, signOne, signChosen, decideSign, decideDeregister, decideOpenSettings, decide, perform, kind, outcome, leastOutput}
 use Rattle.model.specs.Complete.{draftsOf, isDraft}
 use Rattle.model.specs.Reader.{responses, isHandle, isSigned}
 use Rattle.model.proofs.Basics.{split, clash, and-left, and-right, both, eqBytes-refl, length-select, Passed}
@@ -160,10 +160,6 @@ module _ (q : List ℕ) (l : Lent) (rs : Table) where
 
 -- ---- Register
 
--- what a verdict other than 0 says
-abbrev verdicts : List ℕ
-verdicts = 0x02 ∷ 0x03 ∷ 0x05 ∷ 0x0E ∷ 0x10 ∷ []
-
 -- the lent number n, which is not 0, says one of these statuses
 said-listed : (k : Kind) (ns : List ℕ) (n : ℕ) → all (listed k) ns ≡ true → leb n (length ns) ≡ true → not (eqb n 0) ≡ true
     → listed k (getD (0 ∷ ns) n 0) ≡ true
@@ -188,7 +184,7 @@ unfolding decideRegister registerChecks lentOk
 register-good q l rs mine taken filled p =
     let v : leb (l .verdict) 5 ≡ true = search (and-left, and-right) in
     decided q l rs register keep _ _
-    ((λ f. refl), ((λ f. said-listed register verdicts (l .verdict) refl v f), ((λ f. refl), ((λ f. refl), ((λ f. refl), tt)))))
+    ((λ f. refl), ((λ f. said-listed register verdictStatuses (l .verdict) refl v f), ((λ f. refl), ((λ f. refl), ((λ f. refl), tt)))))
     (λ h. record {
       layout = keyRegistrationData end;
       values = registerFields q l;
@@ -293,7 +289,7 @@ one-good q l r b p o =
     let d : leb (l .display) 3 ≡ true = search (and-left, and-right) in
     let m : leb (r .count) maxCount ≡ true = search (and-left, and-right) in
     decided q l (r ∷ []) sign keep _ _
-    ((λ f. said-listed sign (0x05 ∷ 0x04 ∷ 0x0E ∷ []) (l .display) refl d (and-right (hasContent q) _ f)), ((λ f. refl), tt))
+    ((λ f. said-listed sign displayStatuses (l .display) refl d (and-right (hasContent q) _ f)), ((λ f. refl), tt))
     (λ g.
     let u : r .count < maxCount = omega (arith, leb-true (r .count) maxCount m, eqb-false (r .count) maxCount (g .1 .0)) in
     record {
@@ -317,7 +313,7 @@ sign-good q l mine p t m =
     let v : leb (l .verdict) 5 ≡ true = search (and-left, and-right) in
     let asked : Record → Bool = λ r. empty (fieldsIn keyHandle q) || among (r .keyId) (fieldsIn keyHandle q) in
     decided q l (chosen (fieldsIn keyHandle q) mine) sign keep _ _
-    ((λ e. refl), ((λ e. said-listed sign verdicts (l .verdict) refl v e), tt))
+    ((λ e. refl), ((λ e. said-listed sign verdictStatuses (l .verdict) refl v e), tt))
     (λ h. chosen-good q l _ (h .0) p (select-keeps asked mine t) (omega (arith, length-select asked mine)))
 
 -- ---- every command

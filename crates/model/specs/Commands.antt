@@ -177,19 +177,25 @@ decideGetInfo s l =
 -- ---- Register
 
 -- "1 ACCESS_DENIED 0x02, 2 USER_NOT_ENROLLED 0x03, 3 USER_CANCELLED 0x05, 4 USER_NOT_RESPONSIVE 0x0E, 5 USER_LOCKOUT 0x10"
+abbrev pub verdictStatuses : List ℕ
+verdictStatuses = 0x02 ∷ 0x03 ∷ 0x05 ∷ 0x0E ∷ 0x10 ∷ []
+
 abbrev pub verdictStatus : ℕ → ℕ
-verdictStatus v = getD (0x00 ∷ 0x02 ∷ 0x03 ∷ 0x05 ∷ 0x0E ∷ 0x10 ∷ []) v 0x00
+verdictStatus v = getD (0x00 ∷ verdictStatuses) v 0x00
+
+-- "0x08; then the verdict": Register's first checks, and Sign's
+abbrev pub userChecks : Bool → ℕ → List Check
+userChecks breaks verdict = check 0x08 breaks ∷ check (verdictStatus verdict) (not (eqb verdict 0)) ∷ []
 
 -- mine: the caller's records; taken: the KeyID is stored, by anybody; filled: there are 32 records in all
 unfoldable pub registerChecks : List ℕ → Lent → Table → Bool → Bool → List Check
 registerChecks s l mine taken filled =
     let type = num (fieldIn attestationType s) in
-    check 0x08 (broken register s)
-    ∷ check (verdictStatus (l .verdict)) (not (eqb (l .verdict) 0))
-    ∷ check 0x07 (not (eqb type full || eqb type surrogate))
+    userChecks (broken register s) (l .verdict)
+    ++ (check 0x07 (not (eqb type full || eqb type surrogate))
     ∷ check 0x01 taken
     ∷ check 0x0F (leb maxOwn (length mine) || filled)
-    ∷ []
+    ∷ [])
 
 -- "KRD: AAID, ASSERTION_INFO (version, mode 0x01, both algorithms; 7 bytes), challenge hash, KEYID, COUNTERS (SignCounter 0,
 -- RegCounter 0; 4 bytes each), PUB_KEY"
@@ -252,15 +258,20 @@ unfoldable pub signDraft : List ℕ → Lent → Record → List ℕ
 signDraft s l r = write (signedData (hasContent s) end) (signFields (hasContent s) s l r)
 
 -- "1 0x05, 2 CANNOT_RENDER_TRANSACTION_CONTENT 0x04, 3 0x0E"
+abbrev pub displayStatuses : List ℕ
+displayStatuses = 0x05 ∷ 0x04 ∷ 0x0E ∷ []
+
 abbrev pub displayStatus : ℕ → ℕ
-displayStatus d = getD (0x00 ∷ 0x05 ∷ 0x04 ∷ 0x0E ∷ []) d 0x00
+displayStatus d = getD (0x00 ∷ displayStatuses) d 0x00
 
 -- "One: with non-empty transaction content the display result ..; then 0x01 if the counter is 4,294,967,295. Else the counter rises by 1"
+abbrev pub oneChecks : Bool → ℕ → ℕ → List Check
+oneChecks content display count =
+    check (displayStatus display) (content && not (eqb display 0)) ∷ check 0x01 (eqb count maxCount) ∷ []
+
 unfoldable pub signOne : List ℕ → Lent → Record → Decision
 signOne s l r =
-    judge
-    (check (displayStatus (l .display)) (hasContent s && not (eqb (l .display) 0)) ∷ check 0x01 (eqb (r .count) maxCount) ∷ [])
-    (only sign keep)
+    judge (oneChecks (hasContent s) (l .display) (r .count)) (only sign keep)
     (record { answer = draft (signDraft s l r); change = setCount (r .keyId) (suc (r .count)) })
 
 -- "None: 0x02. Several: OK with .., no counter moved"
@@ -271,17 +282,21 @@ signChosen s l (r ∷ q ∷ rs) = record { answer = response (nameResponse (r �
 
 unfoldable pub decideSign : List ℕ → Lent → Table → Decision
 decideSign s l mine =
-    judge (check 0x08 (broken sign s) ∷ check (verdictStatus (l .verdict)) (not (eqb (l .verdict) 0)) ∷ []) (only sign keep)
+    judge (userChecks (broken sign s) (l .verdict)) (only sign keep)
     (signChosen s l (chosen (fieldsIn keyHandle s) mine))
 
 -- ---- Deregister: "An empty KeyID removes all records of the mixed token and is OK even for none. Else the record with that KeyID and
 -- mixed token goes; if there is none, 0x02"
 
+abbrev pub deregisterChecks : List ℕ → Table → List Check
+deregisterChecks s mine =
+    let k = fieldIn keyIdOrNone s in
+    check 0x08 (broken deregister s) ∷ check 0x02 (not (empty k || among k (keyIds mine))) ∷ []
+
 unfoldable pub decideDeregister : List ℕ → Table → Decision
 decideDeregister s mine =
     let k = fieldIn keyIdOrNone s in
-    judge (check 0x08 (broken deregister s) ∷ check 0x02 (not (empty k || among k (keyIds mine))) ∷ []) (only deregister keep)
-    (only deregister (cond (empty k) removeAll (remove k)) 0x00)
+    judge (deregisterChecks s mine) (only deregister keep) (only deregister (cond (empty k) removeAll (remove k)) 0x00)
 
 -- ---- Open settings
 
