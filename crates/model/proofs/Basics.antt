@@ -153,6 +153,22 @@ module _ {A : Type 0} (p : A → Bool) where
   first-passes [] x e = cc
   first-passes (y ∷ xs) x e = split (p y) (λ k. cc) (λ k. first-passes xs x (cc))
 
+-- ---- of each element
+
+module _ {A : Type 0} where
+  abbrev pub Each : (A → Type 0) → List A → Type 0
+  Each P [] = Unit {0}
+  Each P (x ∷ xs) = P x × Each P xs
+
+  -- a test of all, and what it tells of each
+  pub all-each : (p : A → Bool) (P : A → Type 0) → ((x : A) → p x ≡ true → P x) → (xs : List A) → all p xs ≡ true → Each P xs
+  all-each p P f [] e = tt
+  all-each p P f (x ∷ xs) e = (f x (and-left (p x) _ e), all-each p P f xs (and-right (p x) _ e))
+
+  pub each-all : (p : A → Bool) (P : A → Type 0) → ((x : A) → P x → p x ≡ true) → (xs : List A) → Each P xs → all p xs ≡ true
+  each-all p P f [] e = refl
+  each-all p P f (x ∷ xs) e = both (f x (e .0)) (each-all p P f xs (e .1))
+
 -- ---- lists of checks
 
 -- every check passes

@@ -15,14 +15,14 @@ use Rattle.model.specs.Records.{Record, Table, recordOk, hasMixed, own, 
 use Rattle.model.specs.Commands.{statuses, verdictStatuses, displayStatuses, bytesOf, Lent, profileOk, lentOk, Call, mixedOf, Given, Check, judge, gave, Answer, response, draft, Change, keep, Decision, Effect, statusOnly, only, info, infoFields, infoResponse, decideGetInfo, keyRegistrationData, registerFields, registerDraft, registerChecks, decideRegister, chosen, nameRows, nameList, nameFields, nameResponse, signedData, hasContent, signFields, signDraft, signOne, signChosen, decideSign, decideDeregister, decideOpenSettings, decide, perform, kind, outcome, leastOutput}
 use Rattle.model.specs.Complete.{draftsOf, isDraft}
 use Rattle.model.specs.Reader.{responses, isHandle, isSigned}
-use Rattle.model.proofs.Basics.{split, clash, and-left, and-right, both, eqBytes-refl, length-select, Passed}
+use Rattle.model.proofs.Basics.{split, clash, and-left, and-right, both, eqBytes-refl, length-select, Passed, Each}
 use Rattle.model.proofs.Numbers.{num-le, length-le}
 use Rattle.model.proofs.LayoutLaws.{fitAll}
 use Rattle.model.proofs.Kept.{given-ok, select-keeps, Accepted, accepted}
 use Rattle.model.proofs.Rules.{Tests, tests}
 use Rattle.model.proofs.Fields.{field-fits}
 use Rattle.model.proofs.PartLaws.{nodes, leaves, lacks}
-use Rattle.model.proofs.LayoutWritten.{member, all-member, Each, WrittenBy, small, written-length, written-reads, responses-small, outerTag, keysIn, no-keys}
+use Rattle.model.proofs.LayoutWritten.{member, all-member, WrittenBy, small, written-length, written-reads, responses-small, outerTag, keysIn, no-keys}
 use Rattle.model.proofs.EdgesSign.{picked}
 
 -- the kind of completion for a command's drafts; for the commands that write none it is no kind

@@ -4,17 +4,18 @@ use mathlib.Core.Path.{_≡_, refl, sym, ap, _∙_}
 use mathlib.Core.Bool.{Bool, true, false, not, cond, _||_}
 use mathlib.Core.List.{List, [], _∷_, _++_}
 use mathlib.Core.Logic.{_⊎_, inl, inr}
-use Prim.Native.Nat.{ℕ, _≤_, _<_}
+use Prim.Native.Nat.{ℕ, suc, _+_, _≤_, _<_}
 use native.Mathlib.Omega.{arith}
-use lib.ListN.{length}
+use lib.ListN.{length, length-append}
 use lib.Dec.{eqb, leb}
 use borrow.Author.Tests.{le-leb, lt-leb, eq-eqb, ne-eqb}
 use Rattle.model.specs.Lists.{consIf, select, empty, eqBytes, among, distinct, all}
-use Rattle.model.specs.Tlv.{num, le, bytes, attestationType, username, keyIdOrNone, full, surrogate, Kind, getInfo, register, sign, deregister, openSettings, broken, fieldIn, responseTag}
+use Rattle.model.specs.Tlv.{num, le, tlv, bytes, textPlain, uafV1Tlv, challengeHash, attestationType, username, keyIdOrNone, full, surrogate, Kind, getInfo, register, sign, deregister, openSettings, broken, fieldIn, responseTag}
 use Rattle.model.specs.Layouts.{fill, write}
 use Rattle.model.specs.Records.{Record, Table, own, keyIds, hasMixed, tableOk, maxOwn, maxRecords}
-use Rattle.model.specs.Commands.{Call, mixedOf, judge, response, draft, keep, add, isKey, apply, Decision, only, verdictStatus, infoResponse, decideGetInfo, registerDraft, registerChecks, decideRegister, decideSign, decideDeregister, decideOpenSettings, decide, Effect, perform}
+use Rattle.model.specs.Commands.{Lent, Call, mixedOf, judge, response, draft, keep, add, isKey, apply, Decision, only, verdictStatus, infoResponse, decideGetInfo, registerDraft, registerChecks, decideRegister, decideSign, decideDeregister, decideOpenSettings, decide, Effect, perform}
 use Rattle.model.proofs.Basics.{split, clash, and-left, and-right, both, eqBytes-eq, eqBytes-not, eqBytes-sym, all-same, select-all}
+use Rattle.model.proofs.Rules.{obeys-rules}
 use Rattle.model.proofs.Separation.{other-apply}
 
 -- ---- statuses
@@ -67,6 +68,28 @@ module _ (c : Call) (t : Table) where
   unfolding perform decide decideGetInfo judge apply
   informs e = rw e
 
+  -- and these are its TLVs
+  pub informs-with : (l : Lent) → infoResponse l
+      ≡ bytes
+      (tlv 0x3601
+      (bytes
+      (tlv 0x2808 (0x00 ∷ 0x00 ∷ [])
+      ∷ tlv 0x280E (0x01 ∷ [])
+      ∷ tlv 0x3811
+      (bytes
+      (tlv 0x280D (0x00 ∷ [])
+      ∷ tlv 0x2E0B (l .aaid)
+      ∷ tlv 0x2809 (l .metadata)
+      ∷ tlv 0x280C textPlain
+      ∷ tlv 0x280A uafV1Tlv
+      ∷ tlv 0x2807 (0x07 ∷ 0x3E ∷ [])
+      ∷ tlv 0x2807 (0x08 ∷ 0x3E ∷ [])
+      ∷ []))
+      ∷ []))
+      ∷ [])
+  unfolding infoResponse write fill le
+  informs-with l = refl
+
   pub unsettled : broken openSettings (c .command) ≡ false → perform openSettings c t ≡ says openSettings 0x06 t
   unfolding perform decide decideOpenSettings judge only apply write fill bytes le
   unsettled e = rw e
@@ -117,6 +140,22 @@ module _ (c : Call) (t : Table) (k : Clear c) where
         → perform register c t ≡ record { answer = draft (registerDraft (c .command) (c .lent)); left = t ++ (newRecord c ∷ []) }
     unfolding apply
     one-place h i = places ∙ rw (lt-leb _ _ h, lt-leb _ _ i)
+
+-- the TLVs of its draft
+pub registers-with : (s : List ℕ) (l : Lent) → registerDraft s l
+    ≡ bytes
+    (tlv 0x3E03
+    (bytes
+    (tlv 0x2E0B (l .aaid)
+    ∷ tlv 0x2E0E (le 2 (l .version) ++ (0x01 ∷ le 2 (l .signatureAlgorithm) ++ le 2 (l .keyAlgorithm)))
+    ∷ tlv 0x2E0A (fieldIn challengeHash s)
+    ∷ tlv 0x2E09 (l .keyId)
+    ∷ tlv 0x2E0D (0x00 ∷ 0x00 ∷ 0x00 ∷ 0x00 ∷ 0x00 ∷ 0x00 ∷ 0x00 ∷ 0x00 ∷ [])
+    ∷ tlv 0x2E0C (l .publicKey)
+    ∷ []))
+    ∷ [])
+unfolding registerDraft write fill le
+registers-with s l = refl
 
 -- ---- a record's place in a table that obeys the rules
 
@@ -238,6 +277,41 @@ module _ (c : Call) (t : Table) (sound : broken deregister (c .command) ≡ fals
       let f = own-key (mixedOf c) (asked c) t h in
       let s : Stands (isKey (mixedOf c) (asked c)) (f .0) t = stands (isKey (mixedOf c) (asked c)) (f .0) (f .1 .0) t (f .1 .1) in
       record { gone = f .0; place = s; closed = closes-gap (f .0) s }
+
+-- ---- a freed place
+
+own-gap : (m : List ℕ) (a : Table) (r : Record) (b : Table)
+    → length (own m (a ++ (r ∷ b))) ≡ cond (hasMixed m r) 1 0 + length (own m (a ++ b))
+unfolding own
+own-gap m [] r b = split (hasMixed m r) (λ e. rw e (omega arith)) (λ e. rw e (omega arith))
+own-gap m (x ∷ a) r b =
+    let ih = own-gap m a r b in
+    split (hasMixed m x) (λ e. rw e (omega (arith, ih))) (λ e. rw e ih)
+
+-- "so a freed place is used again": where a Deregister removed a record, a Register that only the table could hold up is not refused for
+-- want of a place, if it is of the same holder or of one with fewer than 8 records, and its record is the last
+pub freed-place : (d : Call) (t : Table) → tableOk t ≡ true → Removed d t → (c : Call) → Clear c
+    → among (c .lent .keyId) (keyIds (perform deregister d t .left)) ≡ false
+    → (mixedOf c ≡ mixedOf d) ⊎ (length (own (mixedOf c) t) < 8)
+    → perform register c (perform deregister d t .left)
+    ≡ record { answer = draft (registerDraft (c .command) (c .lent)); left = perform deregister d t .left ++ (newRecord c ∷ []) }
+freed-place d t ok w c k unused h =
+    let p = w .place in
+    let e : perform deregister d t .left ≡ p .before ++ p .after = ap (λ x. x .left) (w .closed) in
+    let o : length (own (mixedOf c) t) ≡ cond (hasMixed (mixedOf c) (w .gone)) 1 0 + length (own (mixedOf c) (p .before ++ p .after)) =
+    rw (p .whole) (own-gap (mixedOf c) (p .before) (w .gone) (p .after)) in
+    let n : length t ≡ suc (length (p .before ++ p .after)) = rw (p .whole) (simp length-append (omega arith)) in
+    let r = obeys-rules t ok in
+    rw e
+    (one-place c (p .before ++ p .after) k (rw e at unused) (few h o) (omega (arith, n, r .few)))
+  where
+    few : (mixedOf c ≡ mixedOf d) ⊎ (length (own (mixedOf c) t) < 8)
+        → length (own (mixedOf c) t) ≡ cond (hasMixed (mixedOf c) (w .gone)) 1 0 + length (own (mixedOf c) (w .place .before ++ w .place .after))
+        → length (own (mixedOf c) (w .place .before ++ w .place .after)) < 8
+    few (inl q) o =
+        let g : hasMixed (mixedOf c) (w .gone) ≡ true = rw q (and-left _ _ (w .place .passes)) in
+        omega (arith, rw g at o, obeys-rules t ok .own-few (mixedOf c))
+    few (inr q) o = omega (arith, o)
 
 -- the records of another holder stay, with their order and all their fields, whatever the call
 pub others-stay : (k : Kind) (c : Call) (t : Table) (h : List ℕ) → (mixedOf c ≡ h → ⊥) → own h (perform k c t .left) ≡ own h t

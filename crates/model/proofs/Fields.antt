@@ -1,17 +1,17 @@
--- The fields of a command that is not broken fit their rules.
+-- The rules for a command in words, and that the fields of one that breaks none fit theirs.
 -- Assumes nothing.
 use mathlib.Core.Path.{_≡_, refl}
-use mathlib.Core.Bool.{Bool, true, false}
+use mathlib.Core.Bool.{Bool, true, false, not}
 use mathlib.Core.List.{List, [], _∷_}
 use mathlib.Core.Option.{Option, none, some, Option·getD}
-use Prim.Native.Nat.{ℕ, _≤_}
+use Prim.Native.Nat.{ℕ, _+_, _≤_}
 use native.Mathlib.Omega.{arith}
-use lib.ListN.{length, getD}
+use lib.ListN.{length, take, drop, getD}
 use lib.Dec.{leb, eqb}
-use borrow.Author.Tests.{eqb-true, leb-true}
+use borrow.Author.Tests.{eqb-true, eq-eqb, leb-true, le-leb, not-true}
 use Rattle.model.specs.Lists.{all, select, first}
-use Rattle.model.specs.Tlv.{Tlv, Field, tagOf, fits, Kind, Listed, mandatory, fieldsOf, childOk, listed, valuesOf, timesOk, childrenOk, children, isRun, broken, fieldsIn, fieldIn}
-use Rattle.model.proofs.Basics.{split, clash, and-left, and-right, both, not-not}
+use Rattle.model.specs.Tlv.{num, Tlv, tlvs, critical, composite, wellFormed, maxCommand, fills, Field, tagOf, fits, Kind, Listed, mandatory, fieldsOf, childOk, listed, valuesOf, timesOk, childrenOk, children, isRun, broken, fieldsIn, fieldIn}
+use Rattle.model.proofs.Basics.{split, clash, and-left, and-right, both, not-not, Each, all-each, each-all}
 
 -- the children of a command that is not broken
 pub record Unbroken (k : Kind) (s : List ℕ) : Type 0 where
@@ -73,3 +73,57 @@ module _ (k : Kind) (s : List ℕ) (f : Field) (b : broken k s ≡ false) where
       go : (vs : List (List ℕ)) → all (fits f) vs ≡ true → 1 ≤ length vs → fits f (getD vs 0 []) ≡ true
       go [] e n = absurd (omega arith)
       go (v ∷ vs) e n = and-left (fits f v) _ e
+
+-- ---- the rules under "TLV bytes", in words
+
+-- a child obeys its field's rule if the command lists it, else it is skipped
+pub data Allowed (k : Kind) (c : Tlv) : Type 0 where
+  obeys : (l : Listed) → listed (fieldsOf k) (c .tag) ≡ some l → fits (l .field) (c .value) ≡ true → Allowed k c
+  skipped : listed (fieldsOf k) (c .tag) ≡ none → critical (c .tag) ≡ false
+      → (composite (c .tag) ≡ true → wellFormed 6 (c .value) ≡ true) → Allowed k c
+
+pub record CommandRules (k : Kind) (s : List ℕ) : Type 0 where
+  pub short : length s ≤ 8192
+  pub ends : 4 + num (take 2 (drop 2 s)) ≡ length s
+  pub held : List Tlv
+  pub run : tlvs (drop 4 s) ≡ some held
+  pub each : Each (Allowed k) held
+  pub times : Each (λ l. (l .least ≤ length (valuesOf (l .field) held)) × (length (valuesOf (l .field) held) ≤ l .most)) (fieldsOf k)
+
+allowed : (k : Kind) (c : Tlv) → childOk c (listed (fieldsOf k) (c .tag)) ≡ true → Allowed k c
+allowed k c e = go (listed (fieldsOf k) (c .tag)) refl e
+  where
+    go : (o : Option Listed) → listed (fieldsOf k) (c .tag) ≡ o → childOk c o ≡ true → Allowed k c
+    go none p q =
+        skipped p (not-true _ (and-left (not (critical (c .tag))) _ q))
+        (λ m. rw m at (and-right (not (critical (c .tag))) _ q))
+    go (some l) p q = obeys l p q
+
+child-ok : (k : Kind) (c : Tlv) → Allowed k c → childOk c (listed (fieldsOf k) (c .tag)) ≡ true
+child-ok k c (obeys l p q) = rw p q
+child-ok k c (skipped p q r) = rw (p, q) (split (composite (c .tag)) (λ e. rw e (r e)) (λ e. rw e))
+
+-- a command that breaks no rule obeys them
+pub command-rules : (k : Kind) (s : List ℕ) → broken k s ≡ false → CommandRules k s
+unfolding broken children
+command-rules k s b =
+    let u : Unbroken k s = unbroken k s b in
+    let n : leb (length s) maxCommand ≡ true = and-left (leb (length s) maxCommand) _ (not-not _ b) in
+    split (fills s)
+    (λ f. record {
+      short = leb-true _ _ n;
+      ends = eqb-true _ _ f;
+      held = u .held;
+      run = rw f at (u .read);
+      each = all-each _ (Allowed k) (allowed k) (u .held) (u .child);
+      times = all-each (timesOk (u .held)) _ (λ l e. (leb-true _ _ (and-left (leb (l .least) _) _ e), leb-true _ _ (and-right (leb (l .least) _) _ e))) (fieldsOf k) (u .times);
+    })
+    (λ f. let g : none ≡ some (u .held) = rw f at (u .read) in let z : _≡_ {A = ℕ} 0 1 = cc in absurd (omega arith))
+
+-- and one that obeys them breaks none
+pub command-ok : (k : Kind) (s : List ℕ) → CommandRules k s → broken k s ≡ false
+unfolding broken children childrenOk
+command-ok k s r =
+    let c = each-all (λ c. childOk c (listed (fieldsOf k) (c .tag))) (Allowed k) (child-ok k) (r .held) (r .each) in
+    let t = each-all (timesOk (r .held)) _ (λ l e. both (le-leb _ _ (e .0)) (le-leb _ _ (e .1))) (fieldsOf k) (r .times) in
+    rw (le-leb _ _ (r .short), eq-eqb _ _ (r .ends), r .run, c, t)

@@ -14,7 +14,7 @@ use Rattle.model.specs.Tlv.{le, Tlv, tlvs, isRun, tagOf}
 use Rattle.model.specs.Layouts.{Layout, end, field, group, size, write, matches, reads}
 use Rattle.model.specs.Commands.{leastOutput}
 use Rattle.model.specs.Reader.{responses, holds, fieldParts, listedKeys, isHandle}
-use Rattle.model.proofs.Basics.{split, clash, and-left, and-right, select-comm}
+use Rattle.model.proofs.Basics.{split, clash, and-left, and-right, select-comm, Each}
 use Rattle.model.proofs.LayoutLaws.{fitAll, tagsOk, most, length-write, reads-write}
 use Rattle.model.proofs.PartLaws.{nodes, leaves, lacks, none-such, honest, fields-shown, shown-select, shown-as}
 
@@ -39,10 +39,6 @@ module _ {A : Type 0} where
   any-found p (y ∷ xs) h =
       split (p y) (λ e. (y, List·Memᴰ·head refl, e))
       (λ e. let (x, m, f) = any-found p xs (rw e at h) in (x, List·Memᴰ·tail m, f))
-
-  abbrev pub Each : (A → Type 0) → List A → Type 0
-  Each P [] = Unit {0}
-  Each P (x ∷ xs) = P x × Each P xs
 
   pub each-member : (P : A → Type 0) {x : A} {xs : List A} → List·Memᴰ x xs → Each P xs → P x
   each-member P (List·Memᴰ·head e) h = rw e (h .0)

@@ -20,6 +20,7 @@ pub mod StatusWitness
 pub mod DraftWitness
 pub mod ResponseWitness
 pub mod Exactness
+pub mod Order
 pub mod Separation
 pub mod Edges
 pub mod EdgesSign

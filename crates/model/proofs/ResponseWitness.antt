@@ -14,11 +14,11 @@ use Rattle.model.specs.Records.{Table, hasMixed, keyIds, recordOk, own, 
 use Rattle.model.specs.Commands.{statuses, Decision, Lent, response, gave, statusOnly, info, nameRows, nameList, nameFields, nameResponse, keyRegistrationData, signedData, judge, profileOk, lentOk, infoResponse, decideGetInfo, decide, perform, leastOutput}
 use Rattle.model.specs.Complete.{Completion, completionOk, signatureOf, attestation, completed, complete}
 use Rattle.model.specs.Reader.{asserted, registered, signed, responses, listedKeys, isResponse, isHandle}
-use Rattle.model.proofs.Basics.{and-left, and-right, both, eqBytes-eq, select-all, length-select}
+use Rattle.model.proofs.Basics.{and-left, and-right, both, eqBytes-eq, select-all, length-select, Each}
 use Rattle.model.proofs.Tlvs.{bytes-append}
 use Rattle.model.proofs.LayoutLaws.{AllBytes, tagsOk, most, reads-written, first-bytes, rest-bytes, write-bytes, fits-allowed}
 use Rattle.model.proofs.PartLaws.{nodes, leaves, honest}
-use Rattle.model.proofs.LayoutWritten.{any-found, Each, each-member, keys-listed}
+use Rattle.model.proofs.LayoutWritten.{any-found, each-member, keys-listed}
 use Rattle.model.proofs.Rules.{tested}
 use Rattle.model.proofs.EdgesSign.{several-listed}
 use Rattle.model.proofs.Witness.{Answered, recordParts, zeros, byte, zero-bytes, calling, lending, lendingZeros, signing, profile-ok, calling-gives, taken, Fit, all-fit, fit-each}
