@@ -16,9 +16,10 @@ use Rattle.model.specs.Lists.{select, first, empty, among}
 use Rattle.model.specs.Tlv.{sign, challengeHash, transactionContent, keyHandle, broken, fieldsIn, fieldIn}
 use Rattle.model.specs.Records as records
 use Rattle.model.specs.Records.{maxCount, tableOk, own, hasMixed}
-use Rattle.model.specs.Commands.{Lent, judge, only, keep, response, userChecks, oneChecks, hasContent, signDraft, signOne, chosen, nameResponse, signChosen, decideSign}
+use Rattle.model.specs.Commands.{Lent, judge, only, keep, userChecks, oneChecks, hasContent, signDraft, signOne, chosen, nameResponse, signChosen, decideSign}
 use Rattle.model.proofs.Basics.{and-left, first-passes, length-select}
 use Rattle.model.proofs.Rules.{obeys-rules}
+use Rattle.model.proofs.EdgesSign.{several-listed}
 use Rattle.tlv.specs.Heads.{part}
 use Rattle.tlv.specs.Spans.{parts}
 use Rattle.tlv.specs.Writing.{Wrote}
@@ -158,18 +159,11 @@ chose {s} {m} {t} {f} {rows} p ok l is =
 
 -- ---- the command
 
--- none, several, one
+-- none, and one; several are several-listed
 chosen-none : (s : List ℕ) (l : Lent) (rs : records.Table) → length rs ≡ 0 → signChosen s l rs ≡ only sign keep 0x02
 unfolding signChosen
 chosen-none s l [] h = refl
 chosen-none s l (r ∷ rs) h = absurd (omega arith)
-
-chosen-several : (s : List ℕ) (l : Lent) (rs : records.Table) → 2 ≤ length rs
-    → signChosen s l rs ≡ record { answer = response (nameResponse rs); change = keep }
-unfolding signChosen
-chosen-several s l [] h = absurd (omega arith)
-chosen-several s l (r ∷ []) h = absurd (omega arith)
-chosen-several s l (r ∷ q ∷ rs) h = refl
 
 -- which does not read the mixed token
 chosen-one : (s a : List ℕ) (n : Numbers) (m nonce hash : List ℕ) (r : records.Record)
@@ -225,5 +219,5 @@ module _ {s : List ℕ} {f : Fields} (n : Numbers) (q : Answers sign s f) {j : J
           → Wrote out 0 (nameResponse (recordsAt (viewTable t) rows)) i out′ r
           → Decided s k m t (decideSign s l (own m (viewTable t))) out out′ (record { answer = Response r; change = Keep })
       several-chosen g h k p =
-          rw (sign-at ∙ chosen-several s l (recordsAt (viewTable t) rows) (omega (arith, w .number, pos-of-ne-zero g)))
+          rw (sign-at ∙ several-listed s l (recordsAt (viewTable t) rows) (omega (arith, w .number, pos-of-ne-zero g)))
           (record { answered = wrote-response p; change = refl; can = tt })

@@ -15,9 +15,10 @@ use Rattle.model.specs.Commands.{Result, refused, gave, tableOf}
 use Rattle.model.specs.Complete.{isDraft, completionOk, completed, complete}
 use Rattle.model.specs.Reader.{Part, partsAt, parts, fieldParts, isResponse, signedPart, readResponse}
 use Rattle.model.specs.Traces.{Form, itself, inStoredForm, handed}
+use Rattle.model.proofs.Basics.{numbersFrom}
 use Rattle.model.proofs.Computing.{computing, each-form}
 use Rattle.model.proofs.Witness.{zeros}
-use Rattle.examples.proofs.Examples.{annThenBoListed}
+use Rattle.examples.proofs.Examples.{info, annThenBoListed, krd, signedDataOf}
 use Rattle.examples.proofs.Limits.{Row, _gives_, Holds, holds}
 
 -- to unfold `reading` is to unfold all that a completion and the reader compute with
@@ -25,34 +26,11 @@ unfoldable reading : Unit {0}
 unfolding computing isDraft completionOk completed complete reads partsAt parts fieldParts isResponse signedPart readResponse
 reading = tt
 
--- n numbers from k on
-abbrev from : ℕ → ℕ → List ℕ
-from k zero = []
-from k (suc n) = k ∷ from (suc k) n
-
 -- ---- completion
 
--- a KRD of 87 bytes
-abbrev krd : List ℕ
-krd =
-    0x03 ∷ 0x3E ∷ 0x53 ∷ 0x00
-    ∷ 0x0B ∷ 0x2E ∷ 0x09 ∷ 0x00 ∷ 0xA1 ∷ 0xA2 ∷ 0xA3 ∷ 0xA4 ∷ 0xA5 ∷ 0xA6 ∷ 0xA7 ∷ 0xA8 ∷ 0xA9
-    ∷ 0x0E ∷ 0x2E ∷ 0x07 ∷ 0x00 ∷ 0x02 ∷ 0x01 ∷ 0x01 ∷ 0x04 ∷ 0x03 ∷ 0x06 ∷ 0x05
-    ∷ 0x0A ∷ 0x2E ∷ 0x01 ∷ 0x00 ∷ 0xAA
-    ∷ 0x09 ∷ 0x2E ∷ 0x20 ∷ 0x00 ∷ replicate 32 0xD0
-    ++ (0x0D ∷ 0x2E ∷ 0x08 ∷ 0x00 ∷ 0x00 ∷ 0x00 ∷ 0x00 ∷ 0x00 ∷ 0x00 ∷ 0x00 ∷ 0x00 ∷ 0x00
-    ∷ 0x0C ∷ 0x2E ∷ 0x02 ∷ 0x00 ∷ 0xD1 ∷ 0xD2 ∷ [])
-
--- SIGNED_DATA whose value has so many bytes, with this mode, content hash (from its length on) and count; of 91 bytes without content
-abbrev signedDataOf : ℕ → ℕ → List ℕ → ℕ → List ℕ
-signedDataOf size mode hash count =
-    0x04 ∷ 0x3E ∷ size ∷ 0x00
-    ∷ 0x0B ∷ 0x2E ∷ 0x09 ∷ 0x00 ∷ 0xA1 ∷ 0xA2 ∷ 0xA3 ∷ 0xA4 ∷ 0xA5 ∷ 0xA6 ∷ 0xA7 ∷ 0xA8 ∷ 0xA9
-    ∷ 0x0E ∷ 0x2E ∷ 0x05 ∷ 0x00 ∷ 0x02 ∷ 0x01 ∷ mode ∷ 0x04 ∷ 0x03
-    ∷ 0x0F ∷ 0x2E ∷ 0x08 ∷ 0x00 ∷ 0xD3 ∷ 0xD3 ∷ 0xD3 ∷ 0xD3 ∷ 0xD3 ∷ 0xD3 ∷ 0xD3 ∷ 0xD3
-    ∷ 0x0A ∷ 0x2E ∷ 0x01 ∷ 0x00 ∷ 0xAA
-    ∷ 0x10 ∷ 0x2E ∷ hash
-    ++ (0x09 ∷ 0x2E ∷ 0x20 ∷ 0x00 ∷ replicate 32 0xD0 ++ (0x0D ∷ 0x2E ∷ 0x04 ∷ 0x00 ∷ count ∷ 0x00 ∷ 0x00 ∷ 0x00 ∷ []))
+-- SIGNED_DATA with this count; of 91 bytes without content
+abbrev counting : ℕ → ℕ → List ℕ → ℕ → List ℕ
+counting size mode hash n = signedDataOf size mode hash 0xD0 (n ∷ 0x00 ∷ 0x00 ∷ 0x00 ∷ [])
 
 abbrev noHash : List ℕ
 noHash = 0x00 ∷ 0x00 ∷ []
@@ -61,10 +39,10 @@ abbrev hash32 : List ℕ
 hash32 = 0x20 ∷ 0x00 ∷ replicate 32 0xD4
 
 abbrev signedData : List ℕ
-signedData = signedDataOf 0x57 0x01 noHash 0x08
+signedData = counting 0x57 0x01 noHash 0x08
 
 abbrev contentSigned : List ℕ
-contentSigned = signedDataOf 0x77 0x02 hash32 0x08
+contentSigned = counting 0x77 0x02 hash32 0x08
 
 -- what completion makes of them with a signature of 3 bytes and a certificate of 2: 122 and 116 bytes
 abbrev registered : List ℕ
@@ -128,10 +106,10 @@ completions =
     ∷ ends 0 (krd ++ zeros 1) 0x3E07 1 1 4096 gives (105 ∷ [])
     ∷ ends 0 [] 0x3E07 1 1 4096 gives (105 ∷ [])
     ∷ ends 1 contentSigned 0 1 0 4096 gives (146 ∷ [])
-    ∷ ends 1 (signedDataOf 0x77 0x01 hash32 0x01) 0 1 0 4096 gives (105 ∷ [])
-    ∷ ends 1 (signedDataOf 0x57 0x02 noHash 0x01) 0 1 0 4096 gives (105 ∷ [])
-    ∷ ends 1 (signedDataOf 0x57 0x00 noHash 0x01) 0 1 0 4096 gives (105 ∷ [])
-    ∷ ends 1 (signedDataOf 0x57 0x01 noHash 0x00) 0 1 0 4096 gives (105 ∷ [])
+    ∷ ends 1 (counting 0x77 0x01 hash32 0x01) 0 1 0 4096 gives (105 ∷ [])
+    ∷ ends 1 (counting 0x57 0x02 noHash 0x01) 0 1 0 4096 gives (105 ∷ [])
+    ∷ ends 1 (counting 0x57 0x00 noHash 0x01) 0 1 0 4096 gives (105 ∷ [])
+    ∷ ends 1 (counting 0x57 0x01 noHash 0x00) 0 1 0 4096 gives (105 ∷ [])
     -- 1 before 5 before 4
     ∷ ends 0 krd 0x3E07 1 1 4095 gives (101 ∷ [])
     ∷ ends 2 krd 0x3E07 1 1 4095 gives (101 ∷ [])
@@ -154,17 +132,6 @@ read s = numbers (λ r. r .signed .place ∷ r .signed .size ∷ r .tag ∷ r .s
 
 abbrev readable : List ℕ → Bool
 readable s = not (eqb (length (read s)) 1)
-
--- GetInfo's answer, 94 bytes
-abbrev info : List ℕ
-info =
-    0x01 ∷ 0x36 ∷ 0x5A ∷ 0x00 ∷ 0x08 ∷ 0x28 ∷ 0x02 ∷ 0x00 ∷ 0x00 ∷ 0x00 ∷ 0x0E ∷ 0x28 ∷ 0x01 ∷ 0x00 ∷ 0x01
-    ∷ 0x11 ∷ 0x38 ∷ 0x4B ∷ 0x00 ∷ 0x0D ∷ 0x28 ∷ 0x01 ∷ 0x00 ∷ 0x00
-    ∷ 0x0B ∷ 0x2E ∷ 0x09 ∷ 0x00 ∷ replicate 9 0xA1
-    ++ (0x09 ∷ 0x28 ∷ 0x0F ∷ 0x00 ∷ replicate 15 0xB1
-    ++ (0x0C ∷ 0x28 ∷ 0x0A ∷ 0x00 ∷ 0x74 ∷ 0x65 ∷ 0x78 ∷ 0x74 ∷ 0x2F ∷ 0x70 ∷ 0x6C ∷ 0x61 ∷ 0x69 ∷ 0x6E
-    ∷ 0x0A ∷ 0x28 ∷ 0x08 ∷ 0x00 ∷ 0x55 ∷ 0x41 ∷ 0x46 ∷ 0x56 ∷ 0x31 ∷ 0x54 ∷ 0x4C ∷ 0x56
-    ∷ 0x07 ∷ 0x28 ∷ 0x02 ∷ 0x00 ∷ 0x07 ∷ 0x3E ∷ 0x07 ∷ 0x28 ∷ 0x02 ∷ 0x00 ∷ 0x08 ∷ 0x3E ∷ []))
 
 -- a status alone
 abbrev alone : ℕ → List ℕ → List ℕ
@@ -206,7 +173,7 @@ reader-places = holds readings refl
 
 -- of the numbers below 18 the statuses that may stand alone in this response
 abbrev statuses : ℕ → List ℕ
-statuses t = select (λ n. readable (alone t (n ∷ 0x00 ∷ []))) (from 0 18)
+statuses t = select (λ n. readable (alone t (n ∷ 0x00 ∷ []))) (numbersFrom 0 18)
 
 -- a list of names of n bytes for these KeyIDs
 abbrev names : ℕ → List ℕ → List ℕ
@@ -236,9 +203,9 @@ refusals =
     ∷ statuses 0x3604 gives (0x00 ∷ 0x02 ∷ 0x08 ∷ [])
     ∷ statuses 0x3605 gives []
     ∷ statuses 0x3606 gives (0x06 ∷ 0x08 ∷ [])
-    ∷ select (λ n. readable (names 1 (from 0 n))) (from 0 10) gives from 2 7
+    ∷ select (λ n. readable (names 1 (numbersFrom 0 n))) (numbersFrom 0 10) gives numbersFrom 2 7
     ∷ select (λ n. readable (names n (1 ∷ 2 ∷ []))) (0 ∷ 1 ∷ 128 ∷ 129 ∷ []) gives (1 ∷ 128 ∷ [])
-    ∷ (length (read (names 1 (from 0 8))) ∷ []) gives ((4 + 3 * 17) ∷ [])
+    ∷ (length (read (names 1 (numbersFrom 0 8))) ∷ []) gives ((4 + 3 * 17) ∷ [])
     ∷ read (names 1 (1 ∷ 1 ∷ [])) gives (105 ∷ [])
     ∷ read (names 1 (1 ∷ 2 ∷ 3 ∷ 1 ∷ [])) gives (105 ∷ [])
     ∷ []
@@ -249,15 +216,15 @@ reader-refusals = holds refusals refl
 
 abbrev changes : List Row
 changes =
-    free (alone 0x3604 (0x00 ∷ 0x00 ∷ [])) (from 0 10) gives []
-    ∷ free info (from 0 94) gives (from 28 9 ++ from 41 15)
+    free (alone 0x3604 (0x00 ∷ 0x00 ∷ [])) (numbersFrom 0 10) gives []
+    ∷ free info (numbersFrom 0 94) gives (numbersFrom 28 9 ++ numbersFrom 41 15)
     -- all but most bytes of a KeyID
-    ∷ free annThenBoListed (from 0 26 ++ from 57 15) gives (from 18 3 ++ from 25 1 ++ from 65 2 ++ from 71 1)
-    ∷ free registered (from 0 56 ++ from 87 35)
-    gives (from 26 9 ++ from 39 2 ++ from 42 4 ++ from 50 1 ++ from 55 1 ++ from 103 2 ++ from 113 3 ++ from 120 2)
-    ∷ free signed (from 0 70 ++ from 101 15)
-    gives (from 26 9 ++ from 39 2 ++ from 42 2 ++ from 48 8 ++ from 60 1 ++ from 69 1 ++ from 105 4 ++ from 113 3)
-    ∷ ending (alone 0x3604 (0x00 ∷ 0x00 ∷ [])) (from 0 12) gives (10 ∷ [])
+    ∷ free annThenBoListed (numbersFrom 0 26 ++ numbersFrom 57 15) gives (numbersFrom 18 3 ++ numbersFrom 25 1 ++ numbersFrom 65 2 ++ numbersFrom 71 1)
+    ∷ free registered (numbersFrom 0 56 ++ numbersFrom 87 35)
+    gives (numbersFrom 26 9 ++ numbersFrom 39 2 ++ numbersFrom 42 4 ++ numbersFrom 50 1 ++ numbersFrom 55 1 ++ numbersFrom 103 2 ++ numbersFrom 113 3 ++ numbersFrom 120 2)
+    ∷ free signed (numbersFrom 0 70 ++ numbersFrom 101 15)
+    gives (numbersFrom 26 9 ++ numbersFrom 39 2 ++ numbersFrom 42 2 ++ numbersFrom 48 8 ++ numbersFrom 60 1 ++ numbersFrom 69 1 ++ numbersFrom 105 4 ++ numbersFrom 113 3)
+    ∷ ending (alone 0x3604 (0x00 ∷ 0x00 ∷ [])) (numbersFrom 0 12) gives (10 ∷ [])
     ∷ ending info (93 ∷ 94 ∷ 95 ∷ []) gives (94 ∷ [])
     ∷ ending annThenBoListed (56 ∷ 57 ∷ 102 ∷ 103 ∷ 104 ∷ []) gives (103 ∷ [])
     ∷ ending registered (105 ∷ 121 ∷ 122 ∷ 123 ∷ []) gives (122 ∷ [])

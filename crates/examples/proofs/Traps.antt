@@ -9,7 +9,7 @@ use Rattle.model.specs.Records.{Record, Table}
 use Rattle.model.specs.Commands.{Result, gave, Answer, response, draft, outcome, withCount}
 use Rattle.model.specs.Traces.{Form, handed, answered, leftBy}
 use Rattle.model.proofs.Computing.{computing, each-form}
-use Rattle.examples.proofs.Examples.{lent, stands, signCommand, annThenBo, annThenBoListed}
+use Rattle.examples.proofs.Examples.{lent, stands, signCommand, ann, bo, annThenBo, annThenBoListed, signedDataOf}
 
 -- the commands of one caller, in order, on a table, and their answers
 record Trap : Type 0 where
@@ -46,29 +46,13 @@ removeKey k =
 abbrev says : ℕ → ℕ → Result Answer
 says k n = gave (response (k ∷ 0x36 ∷ 0x06 ∷ 0x00 ∷ 0x08 ∷ 0x28 ∷ 0x02 ∷ 0x00 ∷ n ∷ 0x00 ∷ []))
 
--- SIGNED_DATA of so many bytes, with this mode, content hash, KeyID and count
 abbrev signs : ℕ → ℕ → List ℕ → ℕ → List ℕ → Result Answer
-signs size mode hash k count =
-    gave
-    (draft
-    (0x04 ∷ 0x3E ∷ size ∷ 0x00
-    ∷ 0x0B ∷ 0x2E ∷ 0x09 ∷ 0x00 ∷ 0xA1 ∷ 0xA2 ∷ 0xA3 ∷ 0xA4 ∷ 0xA5 ∷ 0xA6 ∷ 0xA7 ∷ 0xA8 ∷ 0xA9
-    ∷ 0x0E ∷ 0x2E ∷ 0x05 ∷ 0x00 ∷ 0x02 ∷ 0x01 ∷ mode ∷ 0x04 ∷ 0x03
-    ∷ 0x0F ∷ 0x2E ∷ 0x08 ∷ 0x00 ∷ 0xD3 ∷ 0xD3 ∷ 0xD3 ∷ 0xD3 ∷ 0xD3 ∷ 0xD3 ∷ 0xD3 ∷ 0xD3
-    ∷ 0x0A ∷ 0x2E ∷ 0x01 ∷ 0x00 ∷ 0xAA
-    ∷ 0x10 ∷ 0x2E ∷ hash
-    ++ (0x09 ∷ 0x2E ∷ 0x20 ∷ 0x00 ∷ replicate 32 k ++ (0x0D ∷ 0x2E ∷ 0x04 ∷ 0x00 ∷ count))))
+signs size mode hash k count = gave (draft (signedDataOf size mode hash k count))
 
 abbrev signsPlain : ℕ → List ℕ → Result Answer
 signsPlain k count = signs 0x57 0x01 (0x00 ∷ 0x00 ∷ []) k count
 
 -- ---- records; each caller's record has signed 7 times
-
-abbrev ann : Record
-ann = stands 0xAA (0x41 ∷ 0x6E ∷ 0x6E ∷ [])
-
-abbrev bo : Record
-bo = stands 0xBB (0x42 ∷ 0x6F ∷ [])
 
 abbrev cy : Record
 cy = stands 0xCC (0x43 ∷ 0x79 ∷ [])

@@ -4,7 +4,7 @@ use mathlib.Core.Path.{_≡_, refl, sym, _∙_}
 use mathlib.Core.Bool.{Bool, true, false, not, _&&_, _||_}
 use mathlib.Core.List.{List, [], _∷_, _++_, map}
 use mathlib.Core.Option.{some}
-use Prim.Native.Nat.{ℕ, _≤_}
+use Prim.Native.Nat.{ℕ, zero, suc, _≤_}
 use native.Mathlib.Omega.{arith}
 use lib.ListN.{length}
 use lib.Dec.{eqb}
@@ -152,6 +152,12 @@ module _ {A : Type 0} (p : A → Bool) where
   pub first-passes : (xs : List A) (x : A) → first (select p xs) ≡ some x → p x ≡ true
   first-passes [] x e = cc
   first-passes (y ∷ xs) x e = split (p y) (λ k. cc) (λ k. first-passes xs x (cc))
+
+-- ---- n numbers from a on
+
+abbrev pub numbersFrom : ℕ → ℕ → List ℕ
+numbersFrom a zero = []
+numbersFrom a (suc n) = a ∷ numbersFrom (suc a) n
 
 -- ---- of each element
 

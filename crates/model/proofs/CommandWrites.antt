@@ -15,7 +15,7 @@ use Rattle.model.specs.Records.{Record, Table, recordOk, hasMixed, own, 
 use Rattle.model.specs.Commands.{statuses, verdictStatuses, displayStatuses, bytesOf, Lent, profileOk, lentOk, Call, mixedOf, Given, Check, judge, gave, Answer, response, draft, Change, keep, Decision, Effect, statusOnly, only, info, infoFields, infoResponse, decideGetInfo, keyRegistrationData, registerFields, registerDraft, registerChecks, decideRegister, chosen, nameRows, nameList, nameFields, nameResponse, signedData, hasContent, signFields, signDraft, signOne, signChosen, decideSign, decideDeregister, decideOpenSettings, decide, perform, kind, outcome, leastOutput}
 use Rattle.model.specs.Complete.{draftsOf, isDraft}
 use Rattle.model.specs.Reader.{responses, isHandle, isSigned}
-use Rattle.model.proofs.Basics.{split, clash, and-left, and-right, both, eqBytes-refl, length-select, Passed, Each}
+use Rattle.model.proofs.Basics.{split, clash, and-left, and-right, both, eqBytes-refl, length-select, Passed, Each, numbersFrom}
 use Rattle.model.proofs.Numbers.{num-le, length-le}
 use Rattle.model.proofs.LayoutLaws.{fitAll}
 use Rattle.model.proofs.Kept.{given-ok, select-keeps, Accepted, accepted}
@@ -194,12 +194,7 @@ register-good q l rs mine taken filled p =
 
 -- ---- Sign
 
--- the numbers from a, n of them
-abbrev count : ℕ → ℕ → List ℕ
-count zero a = []
-count (suc n) a = a ∷ count n (suc a)
-
-counted : (n a k : ℕ) → a ≤ k → k < a + n → List·Memᴰ k (count n a)
+counted : (n a k : ℕ) → a ≤ k → k < a + n → List·Memᴰ k (numbersFrom a n)
 counted zero a k h b = absurd (omega arith)
 counted (suc n) a k h b =
     split (eqb k a) (λ e. List·Memᴰ·head (eqb-true k a e))

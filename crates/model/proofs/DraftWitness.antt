@@ -20,7 +20,8 @@ use Rattle.model.proofs.Tlvs.{Sized}
 use Rattle.model.proofs.LayoutLaws.{AllBytes, fits-most, fits-least, reads-written, fits-allowed}
 use Rattle.model.proofs.CommandWrites.{completionKind, drafts-each, draft-taken}
 use Rattle.model.proofs.LayoutWritten.{any-found, each-member}
-use Rattle.model.proofs.Witness.{Answered, zeros, byte, zero-bytes, command, calling, lending, registering, signing, profile-ok, calling-gives, total, not-broken, fields-command, taken, Fit, fit-each}
+use Rattle.model.proofs.LentLaws.{profile-ok}
+use Rattle.model.proofs.Witness.{Answered, zeros, byte, zero-bytes, command, calling, lending, registering, signing, calling-gives, total, not-broken, fields-command, taken, Fit, fit-each}
 
 -- some allowed inputs make the command of this kind write this draft
 pub record Drafted (kind : ℕ) (d : List ℕ) : Type 0 where

@@ -63,12 +63,15 @@ profile-rules l e =
     let k : ltb (l .keyAlgorithm) 65536 ≡ true = search (and-left, and-right) in
     omega (arith, ltb-true, between _ _ a, between _ _ m)
 
-profile-ok : (l : Lent) → ProfileRules l → profileOk l ≡ true
+pub profile-ok : (l : Lent) → fits aaid (l .aaid) ≡ true → fits metadata (l .metadata) ≡ true → l .version < 65536
+    → l .signatureAlgorithm < 65536 → l .keyAlgorithm < 65536 → profileOk l ≡ true
 unfolding profileOk
-profile-ok l r =
-    let a : fits aaid (l .aaid) ≡ true = size-fits _ _ (omega arith) (omega arith) refl in
-    let m : fits metadata (l .metadata) ≡ true = size-fits _ _ (omega arith) (omega arith) refl in
-    both (both (both (both a m) (lt-ltb _ _ (r .version))) (lt-ltb _ _ (r .signature-algorithm))) (lt-ltb _ _ (r .key-algorithm))
+profile-ok l a m v s k = both (both (both (both a m) (lt-ltb _ _ v)) (lt-ltb _ _ s)) (lt-ltb _ _ k)
+
+obeys-profile : (l : Lent) → ProfileRules l → profileOk l ≡ true
+obeys-profile l r =
+    profile-ok l (size-fits _ _ (omega arith) (omega arith) refl) (size-fits _ _ (omega arith) (omega arith) refl)
+    (r .version) (r .signature-algorithm) (r .key-algorithm)
 
 pub lent-rules : (k : Kind) (l : Lent) → lentOk k l ≡ true → LentRules k l
 unfolding lentOk
@@ -93,17 +96,17 @@ lent-rules openSettings l e = tt
 
 pub lent-ok : (k : Kind) (l : Lent) → LentRules k l → lentOk k l ≡ true
 unfolding lentOk
-lent-ok getInfo l r = profile-ok l r
+lent-ok getInfo l r = obeys-profile l r
 lent-ok register l r =
     let m : fits mixedToken (l .mixed) ≡ true = size-fits _ _ (omega arith) (omega arith) refl in
     let i : fits keyId (l .keyId) ≡ true = size-fits _ _ (omega arith) (omega arith) refl in
     let k : fits publicKey (l .publicKey) ≡ true = size-fits _ _ (omega arith) (omega arith) refl in
-    both (both (both (both (profile-ok l (r .profile)) (le-leb _ _ (r .verdict))) m) i) k
+    both (both (both (both (obeys-profile l (r .profile)) (le-leb _ _ (r .verdict))) m) i) k
 lent-ok sign l r =
     let m : fits mixedToken (l .mixed) ≡ true = size-fits _ _ (omega arith) (omega arith) refl in
     let n : fits nonce (l .nonce) ≡ true = size-fits _ _ (omega arith) (omega arith) refl in
     let h : fits (contentHash true) (l .contentHash) ≡ true = size-fits _ _ (omega arith) (omega arith) refl in
-    both (both (both (both (both (profile-ok l (r .profile)) (le-leb _ _ (r .verdict))) (le-leb _ _ (r .display))) m) n) h
+    both (both (both (both (both (obeys-profile l (r .profile)) (le-leb _ _ (r .verdict))) (le-leb _ _ (r .display))) m) n) h
 lent-ok deregister l r = size-fits _ _ (omega arith) (omega arith) refl
 lent-ok openSettings l r = refl
 

@@ -1,7 +1,7 @@
 -- "Children may come in any order": a command decides the same whatever the order of children with different tags.
 -- Assumes nothing.
-use mathlib.Core.Path.{_≡_, refl, sym, ap, _∙_}
-use mathlib.Core.Bool.{Bool, true, false, cond}
+use mathlib.Core.Path.{_≡_, refl, sym, _∙_}
+use mathlib.Core.Bool.{Bool}
 use mathlib.Core.List.{List, [], _∷_, _++_}
 use mathlib.Core.Option.{Option, none, some, map-eq-some-iff}
 use Prim.Native.Nat.{ℕ, zero, suc, _+_}
@@ -10,11 +10,11 @@ use lib.ListN.{length, take, drop, length-drop}
 use lib.Seq.{length-take-le}
 use lib.Dec.{eqb}
 use borrow.Author.Tests.{eqb-true}
-use Rattle.model.specs.Lists.{all, consIf, select}
+use Rattle.model.specs.Lists.{all}
 use Rattle.model.specs.Tlv.{num, Tlv, tlvsPast, Kind, getInfo, register, sign, deregister, openSettings, Field, challengeHash, username, attestationType, keyHandle, keyIdOrNone, transactionContent, Listed, fieldsOf, tagOf, kindOf, fills, childOk, listed, valuesOf, timesOk, childrenOk, children, broken, fieldsIn, fieldIn}
 use Rattle.model.specs.Records.{Table}
-use Rattle.model.specs.Commands.{Lent, Call, Given, decideGetInfo, registerDraft, registerChecks, decideRegister, hasContent, signDraft, signOne, signChosen, decideSign, decideDeregister, decideOpenSettings, decide, perform, refusals, outcome}
-use Rattle.model.proofs.Basics.{split, clash}
+use Rattle.model.specs.Commands.{Lent, Given, decideGetInfo, registerDraft, registerChecks, decideRegister, hasContent, signDraft, signOne, signChosen, decideSign, decideDeregister, decideOpenSettings, decide, perform, refusals, outcome}
+use Rattle.model.proofs.Basics.{split}
 use Rattle.model.proofs.Witness.{total}
 
 -- a run of children and another order of it: neighbours with different tags are exchanged, as often as one likes

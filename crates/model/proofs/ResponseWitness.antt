@@ -13,7 +13,7 @@ use Rattle.model.specs.Layouts.{Layout, end, field, group, fields, size,
 use Rattle.model.specs.Records.{Table, hasMixed, keyIds, recordOk, own, tableOk}
 use Rattle.model.specs.Commands.{statuses, Decision, Lent, response, gave, statusOnly, info, nameRows, nameList, nameFields, nameResponse, keyRegistrationData, signedData, judge, profileOk, lentOk, infoResponse, decideGetInfo, decide, perform, leastOutput}
 use Rattle.model.specs.Complete.{Completion, completionOk, signatureOf, attestation, completed, complete}
-use Rattle.model.specs.Reader.{asserted, registered, signed, responses, listedKeys, isResponse, isHandle}
+use Rattle.model.specs.Reader.{listLengths, asserted, registered, signed, responses, listedKeys, isResponse, isHandle}
 use Rattle.model.proofs.Basics.{and-left, and-right, both, eqBytes-eq, select-all, length-select, Each}
 use Rattle.model.proofs.Tlvs.{bytes-append}
 use Rattle.model.proofs.LayoutLaws.{AllBytes, tagsOk, most, reads-written, first-bytes, rest-bytes, write-bytes, fits-allowed}
@@ -21,7 +21,8 @@ use Rattle.model.proofs.PartLaws.{nodes, leaves, honest}
 use Rattle.model.proofs.LayoutWritten.{any-found, each-member, keys-listed}
 use Rattle.model.proofs.Rules.{tested}
 use Rattle.model.proofs.EdgesSign.{several-listed}
-use Rattle.model.proofs.Witness.{Answered, recordParts, zeros, byte, zero-bytes, calling, lending, lendingZeros, signing, profile-ok, calling-gives, taken, Fit, all-fit, fit-each}
+use Rattle.model.proofs.LentLaws.{profile-ok}
+use Rattle.model.proofs.Witness.{Answered, recordParts, zeros, byte, zero-bytes, calling, lending, lendingZeros, signing, calling-gives, taken, Fit, all-fit, fit-each}
 use Rattle.model.proofs.StatusWitness.{status-witness}
 use Rattle.model.proofs.DraftWitness.{Drafted, drafted-taken, register-drafted, sign-drafted, sign-chooses}
 
@@ -247,7 +248,7 @@ unfolding write fill
 write-named n vs f = rw (length-named n (drop 1 vs), fill-named n (drop 1 vs), exact ok (le 2 0) (getD vs 0 []) (or-false (eqBytes (le 2 0) (getD vs 0 []))) f)
 
 -- what holds of the rows of any number of names
-rows-plain : (n : ℕ) → (honest 4 (nameRows n) ≡ true) × (tagsOk (nameRows n) ≡ true) × (most (nameRows n) ≡ 172 * n)
+pub rows-plain : (n : ℕ) → (honest 4 (nameRows n) ≡ true) × (tagsOk (nameRows n) ≡ true) × (most (nameRows n) ≡ 172 * n)
 rows-plain zero = (refl, refl, omega arith)
 rows-plain (suc n) = let (h, t, m) = rows-plain n in (h, t, omega arith)
 
@@ -283,9 +284,9 @@ all-write : Each Writes responses
 all-write =
     let st = status-writes in
     let n : (n : ℕ) → T (leb 2 n) → T (leb n 8) → Writes (nameList n) = λ n p q. names-write n (lit≤ p) (lit≤ q) in
-    let names : Each Writes (map nameList (2 ∷ 3 ∷ 4 ∷ 5 ∷ 6 ∷ 7 ∷ 8 ∷ [])) =
+    let names : Each Writes (map nameList listLengths) =
     (n 2 tt tt, (n 3 tt tt, (n 4 tt tt, (n 5 tt tt, (n 6 tt tt, (n 7 tt tt, (n 8 tt tt, tt))))))) in
-    let later : Each Writes (signed true ∷ signed false ∷ map nameList (2 ∷ 3 ∷ 4 ∷ 5 ∷ 6 ∷ 7 ∷ 8 ∷ [])) =
+    let later : Each Writes (signed true ∷ signed false ∷ map nameList listLengths) =
     (signed-writes true, (signed-writes false, names)) in
     (st getInfo, (st register, (st sign, (st deregister, (st openSettings, (info-writes, (full-writes, (surrogate-writes, later))))))))
 

@@ -11,8 +11,8 @@ use lib.Dec.{lit<, leb}
 use borrow.Author.Tests.{leb-true}
 use Rattle.model.specs.Lists.{all, eqBytes}
 use Rattle.model.specs.Tlv.{Bytes, num, le, Tlv, tlv, bytes, tlvs, fits, keyId, mixedToken, username, counter, pairTag}
-use Rattle.model.specs.Layouts.{Layout, fields, fill, write, matches}
-use Rattle.model.specs.Records.{Record, Table, maxCount, recordOk, own, maxRecords, tableOk, storedRecord, encode, maxStored, storedAs, tableFrom, decode}
+use Rattle.model.specs.Layouts.{fill, write, matches}
+use Rattle.model.specs.Records.{Record, Table, maxCount, recordOk, own, maxRecords, tableOk, recordFields, storedRecord, encode, maxStored, storedAs, tableFrom, decode}
 use Rattle.model.proofs.Basics.{split, and-left, and-right, both}
 use Rattle.model.proofs.Numbers.{length-le, bytes-le, num-le, le-num}
 use Rattle.model.proofs.Tlvs.{Sized, Held, bytes-append, tlvs-bytes, bytes-tlvs, bytes-join}
@@ -24,11 +24,8 @@ use Rattle.model.proofs.LayoutLaws.{fitAll, AllBytes, fits-most, fits-l
 abbrev values : Record → List (List ℕ)
 values r = r .keyId ∷ r .mixed ∷ r .name ∷ le 4 (r .count) ∷ []
 
-abbrev inner : Layout
-inner = fields (keyId ∷ mixedToken ∷ username ∷ counter ∷ [])
-
 abbrev holding : List (List ℕ) → Tlv
-holding vs = tlv pairTag (bytes (fill inner vs))
+holding vs = tlv pairTag (bytes (fill recordFields vs))
 
 abbrev fourth : List (List ℕ) → List ℕ
 fourth vs = getD (drop 1 (drop 1 (drop 1 vs))) 0 []
@@ -41,7 +38,7 @@ counter-fits : (n : ℕ) → fits counter (le 4 n) ≡ true
 unfolding fits
 counter-fits n = rw (length-le 4 n)
 
-values-fit : (r : Record) → recordOk r ≡ true → fitAll inner (values r) ≡ true
+values-fit : (r : Record) → recordOk r ≡ true → fitAll recordFields (values r) ≡ true
 unfolding recordOk fitAll
 values-fit r e =
     let a : fits keyId (r .keyId) ≡ true = search (and-left, and-right) in
@@ -49,9 +46,9 @@ values-fit r e =
     let c : fits username (r .name) ≡ true = search (and-left, and-right) in
     both a (both b (both c (both (counter-fits (r .count)) refl)))
 
-stored-values : (vs : List (List ℕ)) → fitAll inner vs ≡ true → storedAs (holding vs) ≡ recordIn vs
+stored-values : (vs : List (List ℕ)) → fitAll recordFields vs ≡ true → storedAs (holding vs) ≡ recordIn vs
 unfolding storedAs fill
-stored-values vs e = rw (tlvs-fill inner vs e refl (lit< tt))
+stored-values vs e = rw (tlvs-fill recordFields vs e refl (lit< tt))
 
 stored-record : (r : Record) → recordOk r ≡ true → storedAs (holding (values r)) ≡ r
 unfolding recordOk
@@ -72,7 +69,7 @@ abbrev pub TableBytes : Table → Type 0
 TableBytes [] = Unit {0}
 TableBytes (r ∷ t) = RecordBytes r × TableBytes t
 
-values-back : (vs : List (List ℕ)) → AllBytes vs → fitAll inner vs ≡ true → holding (values (recordIn vs)) ≡ holding vs
+values-back : (vs : List (List ℕ)) → AllBytes vs → fitAll recordFields vs ≡ true → holding (values (recordIn vs)) ≡ holding vs
 unfolding fill fitAll
 values-back vs b e =
     let k : fits counter (fourth vs) ≡ true = search (and-left, and-right) in
@@ -106,7 +103,7 @@ stored-gives (r ∷ t) e =
     let f = values-fit r h in
     let g = stored-gives t (and-right (recordOk r) _ e) in
     record {
-      sized = (lit< tt, omega (arith, length-write inner (values r) f), g .sized);
+      sized = (lit< tt, omega (arith, length-write recordFields (values r) f), g .sized);
       match = both (matches-fill storedRecord (values r) (both f refl) refl (lit< tt)) (g .match);
       same = cc (stored-record r h);
     }
@@ -126,7 +123,7 @@ record Stands (t : Table) (ts : List Tlv) : Type 0 where
   same : stored t ≡ ts
   held : TableBytes t
 
-stands-one : (vs : List (List ℕ)) (x : Tlv) (t : Table) (ts : List Tlv) → AllBytes vs → fitAll inner vs ≡ true → holding vs ≡ x
+stands-one : (vs : List (List ℕ)) (x : Tlv) (t : Table) (ts : List Tlv) → AllBytes vs → fitAll recordFields vs ≡ true → holding vs ≡ x
     → Stands t ts → Stands (storedAs x ∷ t) (x ∷ ts)
 stands-one vs x t ts b f p s =
     let q : storedAs x ≡ recordIn vs = ap storedAs (sym p) ∙ stored-values vs f in

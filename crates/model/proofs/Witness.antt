@@ -8,11 +8,11 @@ use Prim.Native.Nat.{ℕ, zero, suc, _+_, _≤_, _<_}
 use native.Mathlib.Omega.{arith}
 use lib.ListN.{length, take, drop, getD, replicate}
 use lib.Dec.{leb, lit<}
-use borrow.Author.Tests.{le-leb, lt-ltb, eq-eqb}
+use borrow.Author.Tests.{le-leb, eq-eqb}
 use Rattle.model.specs.Tlv.{Bytes, num, le, Tlv, tlv, bytes, header, Field, tagOf, index, challengeHash, username, attestationType, accessToken, transactionContent, aaid, metadata, fits, Kind, getInfo, register, sign, deregister, openSettings, commandTag, fieldsOf, kindOf, valuesOf, childrenOk, children, broken, fieldsIn, maxCommand}
 use Rattle.model.specs.Layouts.{Layout, end, field, group, size}
 use Rattle.model.specs.Records.{Table, tableOk}
-use Rattle.model.specs.Commands.{Lent, Call, value, gave, Effect, Answer, profileOk, lentOk, leastOutput, judge, tableOf, refusals, perform, outcome}
+use Rattle.model.specs.Commands.{Lent, Call, value, gave, Effect, Answer, lentOk, leastOutput, judge, tableOf, refusals, perform, outcome}
 use Rattle.model.proofs.Basics.{both}
 use Rattle.model.proofs.Numbers.{num-le}
 use Rattle.model.proofs.Tlvs.{Sized, Held, length-bytes, tlvs-bytes, bytes-run}
@@ -111,11 +111,6 @@ kind-named openSettings s e f = rw (e, f)
 pub kind-command : (k : Kind) (ts : List Tlv) → kindOf (command k ts) ≡ some k
 unfolding bytes le
 kind-command k ts = kind-named k (command k ts) (le-leb 4 (length (command k ts)) (omega arith)) (num-le 2 (commandTag k) (tag-small k))
-
-pub profile-ok : (l : Lent) → fits aaid (l .aaid) ≡ true → fits metadata (l .metadata) ≡ true → l .version < 65536
-    → l .signatureAlgorithm < 65536 → l .keyAlgorithm < 65536 → profileOk l ≡ true
-unfolding profileOk
-profile-ok l a m v s k = both (both (both (both a m) (lt-ltb _ _ v)) (lt-ltb _ _ s)) (lt-ltb _ _ k)
 
 pub calling-gives : (k : Kind) (ts : List Tlv) (l : Lent) (t : Table) (a : Answer) → Held ts
     → AllBytes (drop 1 (stretches (calling k ts l) t)) → lentOk k l ≡ true → tableOk t ≡ true → perform k (calling k ts l) t .answer ≡ a

@@ -154,17 +154,17 @@ only k c n = record { answer = response (write (statusOnly k) (le 2 n ∷ [])); 
 -- ---- GetInfo: "STATUS_CODE OK 0x00, API_VERSION (1 byte) 1, AUTHENTICATOR_INFO with index, AAID, METADATA, content type text/plain,
 -- the eight letters UAFV1TLV as ASSERTION_SCHEME, then one ATTESTATION_TYPE each for 0x3E07 and 0x3E08, in this order"
 
+abbrev pub infoInner : Layout
+infoInner = fields (index ∷ aaid ∷ metadata ∷ contentType ∷ assertionScheme ∷ fullType ∷ surrogateType ∷ [])
+
 abbrev pub info : Layout
-info =
-    group (responseTag getInfo)
-    (field ok
-    (field apiVersion
-    (group infoTag (fields (index ∷ aaid ∷ metadata ∷ contentType ∷ assertionScheme ∷ fullType ∷ surrogateType ∷ [])) end)))
-    end
+info = group (responseTag getInfo) (field ok (field apiVersion (group infoTag infoInner end))) end
+
+abbrev pub infoInnerFields : (aaid metadata : List ℕ) → List (List ℕ)
+infoInnerFields a m = (0 ∷ []) ∷ a ∷ m ∷ textPlain ∷ uafV1Tlv ∷ le 2 full ∷ le 2 surrogate ∷ []
 
 abbrev pub infoFields : Lent → List (List ℕ)
-infoFields l =
-    le 2 0 ∷ (1 ∷ []) ∷ (0 ∷ []) ∷ l .aaid ∷ l .metadata ∷ textPlain ∷ uafV1Tlv ∷ le 2 full ∷ le 2 surrogate ∷ []
+infoFields l = le 2 0 ∷ (1 ∷ []) ∷ infoInnerFields (l .aaid) (l .metadata)
 
 unfoldable pub infoResponse : Lent → List ℕ
 infoResponse l = write info (infoFields l)
@@ -223,9 +223,12 @@ unfoldable pub chosen : List (List ℕ) → Table → Table
 chosen handles mine = select (λ r. empty handles || among (r .keyId) handles) mine
 
 -- "Several: OK with a USERNAME_AND_KEYHANDLE (USERNAME, KEYHANDLE) for each, oldest first"
+abbrev pub pairFields : Layout
+pairFields = fields (username ∷ keyHandle ∷ [])
+
 abbrev pub nameRows : ℕ → Layout
 nameRows zero = end
-nameRows (suc n) = group pairTag (fields (username ∷ keyHandle ∷ [])) (nameRows n)
+nameRows (suc n) = group pairTag pairFields (nameRows n)
 
 abbrev pub nameList : ℕ → Layout
 nameList n = group (responseTag sign) (field ok (nameRows n)) end

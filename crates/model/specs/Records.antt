@@ -48,8 +48,11 @@ tableOk t =
     leb (length t) maxRecords && all recordOk t && all (λ r. leb (length (own (r .mixed) t)) maxOwn) t && distinct (keyIds t)
 
 -- "Stored form ..: per record one USERNAME_AND_KEYHANDLE holding KEYID, KEYHANDLE_ACCESS_TOKEN .., USERNAME, COUNTERS (4 bytes)"
+abbrev pub recordFields : Layout
+recordFields = fields (keyId ∷ mixedToken ∷ username ∷ counter ∷ [])
+
 abbrev pub storedRecord : Layout
-storedRecord = group pairTag (fields (keyId ∷ mixedToken ∷ username ∷ counter ∷ [])) end
+storedRecord = group pairTag recordFields end
 
 unfoldable pub encode : Table → List ℕ
 encode [] = []

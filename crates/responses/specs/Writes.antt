@@ -2,16 +2,14 @@
 use Prim.Native.Nat.{ℕ}
 use mathlib.Core.Bool.{Bool, cond}
 use mathlib.Core.List.{List, [], _∷_, _++_}
-use Rattle.model.specs.Tlv.{le, full, surrogate, textPlain, uafV1Tlv, index, aaid, metadata, contentType, assertionScheme, fullType, surrogateType}
-use Rattle.model.specs.Layouts.{end, fields, write}
-use Rattle.model.specs.Commands.{keyRegistrationData, signedData}
+use Rattle.model.specs.Tlv.{le}
+use Rattle.model.specs.Layouts.{end, write}
+use Rattle.model.specs.Commands.{infoInner, infoInnerFields, keyRegistrationData, signedData}
 use Rattle.responses.specs.declared.lent.Numbers.{Numbers}
 
 -- the value of AUTHENTICATOR_INFO
 unfoldable pub infoInside : List ℕ → List ℕ → List ℕ
-infoInside a m =
-    write (fields (index ∷ aaid ∷ metadata ∷ contentType ∷ assertionScheme ∷ fullType ∷ surrogateType ∷ []))
-    ((0 ∷ []) ∷ a ∷ m ∷ textPlain ∷ uafV1Tlv ∷ le 2 full ∷ le 2 surrogate ∷ [])
+infoInside a m = write infoInner (infoInnerFields a m)
 
 -- version, mode, signature algorithm: the first five bytes of both kinds of ASSERTION_INFO
 abbrev pub infoStart : Numbers → ℕ → List ℕ
