@@ -120,25 +120,25 @@ settings-closed {f = f} a p = status-keeps p (rw (← a .broken-is) (split (f .b
 -- ---- Register
 
 -- the checks do not read what is lent for the draft alone
-abbrev registers : List ℕ → Numbers → List ℕ → List ℕ → records.Table → Bool → Bool → List Check
-registers s n m key mine taken filled = registerChecks s (lentRegister [] n m key []) mine taken filled
+abbrev registerList : List ℕ → Numbers → List ℕ → List ℕ → records.Table → Bool → Bool → List Check
+registerList s n m key mine taken filled = registerChecks s (lentRegister [] n m key []) mine taken filled
 
 -- j is what the code's judgment gave
 module _ (s : List ℕ) (n : Numbers) (m key : List ℕ) (mine : records.Table) (taken filled : Bool) {j : Judged}
-    (e : j ≡ judge (registers s n m key mine taken filled) Fails Passes) where
+    (e : j ≡ judge (registerList s n m key mine taken filled) Fails Passes) where
   pub register-fails : (a public : List ℕ) {i : ℕ} → j ≡ Fails i
       → decideRegister s (lentRegister a n m key public) mine taken filled ≡ only register keep i
   unfolding decideRegister registerChecks
-  register-fails a public {i} f = judge-fails (registers s n m key mine taken filled) (only register keep) _ i (sym e ∙ f)
+  register-fails a public {i} f = judge-fails (registerList s n m key mine taken filled) (only register keep) _ i (sym e ∙ f)
 
   module _ (f : j ≡ Passes) where
-    register-passed : Passed (registers s n m key mine taken filled)
-    register-passed = judge-passed (registers s n m key mine taken filled) (sym e ∙ f)
+    register-passed : Passed (registerList s n m key mine taken filled)
+    register-passed = judge-passed (registerList s n m key mine taken filled) (sym e ∙ f)
 
     register-passes : (a public : List ℕ) → decideRegister s (lentRegister a n m key public) mine taken filled
         ≡ record { answer = draft (registerDraft s (lentRegister a n m key public)); change = add key (fieldIn username s) }
     unfolding decideRegister registerChecks
-    register-passes a public = judge-passes (registers s n m key mine taken filled) (only register keep) _ (sym e ∙ f)
+    register-passes a public = judge-passes (registerList s n m key mine taken filled) (only register keep) _ (sym e ∙ f)
 
     pub register-unbroken : broken register s ≡ false
     unfolding registerChecks
@@ -157,7 +157,7 @@ register-draft s a n m key public = simp append-assoc
 -- the draft was written, and the change adds the name
 pub registered : (s a : List ℕ) (n : Numbers) (m key public c : List ℕ) (t : Table) (taken : Bool) {f : Fields} {j : Judged}
     {out out′ : List ℕ} {i r : ℕ} → Answers register s f
-    → j ≡ judge (registers s n m key (own m (viewTable t)) taken (leb maxRecords (length (viewTable t)))) Fails Passes → j ≡ Passes
+    → j ≡ judge (registerList s n m key (own m (viewTable t)) taken (leb maxRecords (length (viewTable t)))) Fails Passes → j ≡ Passes
     → length m ≡ 32 → length key ≡ 32 → c ≡ part s (f .«challenge_hash») → Wrote out 0 (krd a n c key public) i out′ r
     → Decided s key m t
     (decideRegister s (lentRegister a n m key public) (own m (viewTable t)) taken (leb maxRecords (length (viewTable t))))

@@ -1,4 +1,4 @@
--- Law k. The conditions of the separation of holders can be met where strangers are busy, and freshness and room are both needed.
+-- The conditions of the separation of holders can be met where strangers are busy, and freshness and room are both needed.
 -- Assumes nothing.
 use mathlib.Core.Path.{_≡_, refl, sym, ap, _∙_}
 use mathlib.Core.Bool.{Bool, true, false}

@@ -1,4 +1,4 @@
--- Law m. P1 to P9 of document 01, "Dead heats and edges", as one table that one statement checks, and that section's last line as another.
+-- P1 to P9 of document 01, "Dead heats and edges", as one table that one statement checks, and that section's last line as another.
 -- Assumes nothing.
 use mathlib.Core.Path.{_≡_, refl}
 use mathlib.Core.List.{List, [], _∷_, _++_, map}
@@ -117,8 +117,9 @@ pub examples : Computed p1ToP9
 unfolding computing
 examples = each-form _ refl refl
 
-sizes : (length info ≡ 94) × (length annThenBoListed ≡ 103)
-sizes = (refl, refl)
+-- the lengths that P1 and P9 say
+pub p-sizes : (length info ≡ 94) × (length annThenBoListed ≡ 103)
+p-sizes = (refl, refl)
 
 -- ---- "Username 128 passes, 129 is 0x08; level 8 passes, level 9 is 0x08; the eighth own record passes, the ninth is 0x0F"
 

@@ -1,4 +1,4 @@
--- Laws f and i. What commands write, as layouts: it fits the output, and a draft is one that completion takes.
+-- What commands write, as layouts: it fits the output, and a draft is one that completion takes.
 -- Assumes nothing.
 use mathlib.Core.Path.{_≡_, refl, ap, subst}
 use mathlib.Core.Bool.{Bool, true, false, not, cond, _||_}
@@ -333,7 +333,7 @@ module _ (c : Call) (g : Given) (e : Effect) (a : Accepted c g e) where
   pub command-drafts : (d : List ℕ) → e .answer ≡ draft d → WroteDraft (c .command) (c .lent) (picked c (a .table)) (kind c) d
   command-drafts d q = subst (Good (c .command) (c .lent) (picked c (a .table)) (kind c)) q good
 
--- ---- law f
+-- ---- it fits the output
 
 pub drafts-small : (k : Kind) → all small (drafts k) ≡ true
 unfolding le
@@ -346,7 +346,7 @@ answer-fits c g e p = go (e .answer) (good c g e (accepted c g e p))
     go (response s) h = written-length responses-small (h .written)
     go (draft d) h = written-length (drafts-small (kind c)) (h .written)
 
--- ---- law i: completion takes every draft that a command writes
+-- ---- completion takes every draft that a command writes
 
 pub draft-taken : (c : Call) (g : Given) (e : Effect) (d : List ℕ) → outcome c g ≡ gave e → e .answer ≡ draft d
     → isDraft (completionKind (kind c)) d ≡ true

@@ -1,4 +1,4 @@
--- Laws f and h. What a completion writes, as a layout: the draft stands in it whole.
+-- What a completion writes, as a layout: the draft stands in it whole.
 -- Assumes nothing.
 use mathlib.Core.Path.{_≡_, refl, sym, _∙_, ap}
 use mathlib.Core.Bool.{Bool, true, false, cond, _&&_, _||_, or-false}
@@ -201,7 +201,7 @@ pub completion-writes : (c : Completion) (s : List ℕ) (l : Layout) (vs : List 
     → complete c ≡ gave s → Completed (completedLayout c l) (completedFields c vs) (c .draft) s
 completion-writes c s l vs w e = let (p, o, q) = completion-passed c s e in rw q at (any-completed c l vs w o)
 
--- law f
+-- it fits the output
 pub completed-fits : (c : Completion) (s : List ℕ) → Bytes (c .draft) → complete c ≡ gave s → length s ≤ leastOutput
 unfolding isDraft
 completed-fits c s b e =

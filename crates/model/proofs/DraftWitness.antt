@@ -1,4 +1,4 @@
--- Law i, its second direction: each draft that completion takes is one that a command writes.
+-- Each draft that completion takes is one that a command writes.
 -- Assumes nothing.
 use mathlib.Core.Path.{_≡_, refl, ap, _∙_}
 use mathlib.Core.Bool.{Bool, true, false, not, cond, and-false}

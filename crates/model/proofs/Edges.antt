@@ -1,4 +1,4 @@
--- Law l. The edges: statuses in their order, the full table, removals, and a stranger's KeyID; EdgesSign has those of Sign.
+-- The edges: statuses in their order, the full table, removals, and a stranger's KeyID; EdgesSign has those of Sign.
 -- Assumes nothing.
 use mathlib.Core.Path.{_≡_, refl, sym, ap, _∙_}
 use mathlib.Core.Bool.{Bool, true, false, not, cond, _||_}
@@ -320,15 +320,15 @@ others-stay k c t h n = other-apply (mixedOf c) h (eqBytes-not _ _ n) _ t
 
 -- ---- a stranger's KeyID
 
-abbrev pub registers : Kind → Bool
-registers getInfo = false
-registers register = true
-registers sign = false
-registers deregister = false
-registers openSettings = false
+abbrev pub isRegister : Kind → Bool
+isRegister getInfo = false
+isRegister register = true
+isRegister sign = false
+isRegister deregister = false
+isRegister openSettings = false
 
 -- but for Register, what is answered depends on the caller's own records alone: not on whether others are there, or have a KeyID
-pub own-only : (c : Call) (t u : Table) (k : Kind) → registers k ≡ false → own (mixedOf c) t ≡ own (mixedOf c) u
+pub own-only : (c : Call) (t u : Table) (k : Kind) → isRegister k ≡ false → own (mixedOf c) t ≡ own (mixedOf c) u
     → perform k c t .answer ≡ perform k c u .answer
 unfolding perform decide
 own-only c t u getInfo n e = refl

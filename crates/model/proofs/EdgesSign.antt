@@ -1,4 +1,4 @@
--- Law l, the edges of Sign: the choice, the list of names, the last count, and the bytes of a draft.
+-- The edges of Sign: the choice, the list of names, the last count, and the bytes of a draft.
 -- Assumes nothing.
 use mathlib.Core.Path.{_≡_, refl, sym, ap, _∙_}
 use mathlib.Core.Bool.{Bool, true, false, not, cond, _&&_, _||_}

@@ -1,4 +1,4 @@
--- Laws h and i, about the entries: the reader accepts exactly what is written, and completion takes exactly the drafts that are. What the
+-- About the entries: the reader accepts exactly what is written, and completion takes exactly the drafts that are. What the
 -- reader gives of it stands in ReadBack: command-read-back, draft-read-back.
 -- Assumes nothing.
 use mathlib.Core.Path.{_≡_, refl}
@@ -22,7 +22,7 @@ use Rattle.model.proofs.Refusals.{not-read, no-draft, completes}
 use Rattle.model.proofs.DraftWitness.{Drafted, draft-witness, drafted-taken}
 use Rattle.model.proofs.ResponseWitness.{Origin, by-command, by-completion, response-witness}
 
--- ---- law h: the reader accepts exactly what a command or a completion writes
+-- ---- the reader accepts exactly what a command or a completion writes
 
 read-response : (s : List ℕ) (r : Reading) → readResponse s ≡ gave r → isResponse s ≡ true
 read-response s r e =
@@ -59,7 +59,7 @@ draft-not-response k d e =
     clash a (rw (one-tag m l d q p) at u))
     (λ f. f))
 
--- ---- law i: completion takes exactly the drafts that a command can write for that kind
+-- ---- completion takes exactly the drafts that a command can write for that kind
 
 pub completion-exact : (k : ℕ) (d : List ℕ) → Bytes d → (isDraft k d ≡ true) ↔ Drafted k d
 completion-exact k d b = (draft-witness k d b, drafted-taken k d)

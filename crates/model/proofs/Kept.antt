@@ -1,4 +1,4 @@
--- Laws d and g. Every call leaves a table that obeys the rules; a refusal changes nothing; a status other than OK leaves the table.
+-- Every call leaves a table that obeys the rules; a refusal changes nothing; a status other than OK leaves the table.
 -- Assumes nothing.
 use mathlib.Core.Path.{_≡_, refl, ap, _∙_}
 use mathlib.Core.Bool.{Bool, true, false, not, cond, _&&_, _||_}

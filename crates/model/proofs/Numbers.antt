@@ -1,4 +1,4 @@
--- Law a. Numbers as little-endian bytes, there and back: one fact over the width.
+-- Numbers as little-endian bytes, there and back: one fact over the width.
 -- Assumes nothing.
 use mathlib.Core.Path.{_≡_, refl, ap}
 use mathlib.Core.List.{List, [], _∷_}

@@ -1,4 +1,4 @@
--- Law h. The parts of a written layout: each TLV of it, in order, at its place.
+-- The parts of a written layout: each TLV of it, in order, at its place.
 -- Assumes nothing.
 use mathlib.Core.Path.{_≡_, refl, sym, ap, _∙_}
 use mathlib.Core.Bool.{Bool, true, false, not, _&&_}

@@ -1,4 +1,4 @@
--- Law h, first direction. Every response that a command or completion writes is read back: its tag, its status, its fields, the draft.
+-- Every response that a command or completion writes is read back: its tag, its status, its fields, the draft.
 -- Assumes nothing.
 use mathlib.Core.Path.{_≡_, refl, sym, ap, _∙_, subst}
 use mathlib.Core.Bool.{Bool, true, false, not, _&&_}

@@ -1,4 +1,4 @@
--- Law h, its second direction: each response that the reader takes is one that a command or a completion writes.
+-- Each response that the reader takes is one that a command or a completion writes.
 -- Assumes nothing.
 use mathlib.Core.Path.{_≡_, refl, sym, ap, _∙_}
 use mathlib.Core.Bool.{Bool, true, false, cond, or-false}

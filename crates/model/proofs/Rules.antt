@@ -1,4 +1,4 @@
--- Law c. The record rules as the paper says them: tableOk tests for these, both ways.
+-- The record rules as the paper says them: tableOk tests for these, both ways.
 -- Assumes nothing.
 use mathlib.Core.Path.{_≡_, refl, sym, ap}
 use mathlib.Core.Bool.{Bool, true, not}

@@ -1,4 +1,4 @@
--- Law j. The separation of holders: a holder's answers and records are what its own calls alone give, over its own records.
+-- The separation of holders: a holder's answers and records are what its own calls alone give, over its own records.
 -- Assumes nothing.
 use mathlib.Core.Path.{_≡_, refl, ap, _∙_}
 use mathlib.Core.Bool.{Bool, true, false, not, cond, _&&_}

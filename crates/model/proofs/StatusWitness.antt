@@ -1,4 +1,4 @@
--- Law h, its second direction for the statuses: each status that the reader takes is one that its command gives.
+-- Each status that the reader takes is one that its command gives.
 -- Assumes nothing.
 use mathlib.Core.Path.{_≡_, refl}
 use mathlib.Core.Bool.{Bool, true}

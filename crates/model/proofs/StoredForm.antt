@@ -1,4 +1,4 @@
--- Law e. The stored form, both ways.
+-- The stored form, both ways.
 -- Assumes nothing.
 use mathlib.Core.Path.{_≡_, refl, sym, ap, _∙_}
 use mathlib.Core.Bool.{Bool, true, _&&_}

@@ -1,4 +1,4 @@
--- Law b. Runs of TLVs: what is written is read, and what is read was written.
+-- Runs of TLVs: what is written is read, and what is read was written.
 -- Assumes nothing.
 use mathlib.Core.Path.{_≡_, refl}
 use mathlib.Core.List.{List, [], _∷_, _++_, append-assoc}

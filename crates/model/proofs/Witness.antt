@@ -1,4 +1,4 @@
--- Laws h and i, shared: calls with a command and lent results made of parts, and what such a call gives.
+-- Calls with a command and lent results made of parts, and what such a call gives.
 -- Assumes nothing.
 use mathlib.Core.Path.{_≡_, refl}
 use mathlib.Core.Bool.{true, false}
