@@ -5,7 +5,6 @@ use mathlib.Core.Bool.{Bool, true, false}
 use mathlib.Core.List.{List, [], _∷_, _++_}
 use mathlib.Core.Option.{none, some, Option·map}
 use Prim.Native.Nat.{ℕ, zero, suc, _+_, _/_}
-use native.Mathlib.Omega.{arith}
 use lib.ListN.{length, replicate}
 use Rattle.model.specs.Lists.{first}
 use Rattle.model.specs.Tlv.{le, Tlv, index, challengeHash, username, attestationType, accessToken, keyIdOrNone, full, Kind, register, sign, deregister}
@@ -13,6 +12,7 @@ use Rattle.model.specs.Layouts.{write}
 use Rattle.model.specs.Records.{Record, Table, own}
 use Rattle.model.specs.Commands.{Lent, refused, gave, response, draft, registerDraft, signDraft, statusOnly}
 use Rattle.model.specs.Traces.{Form, itself, inStoredForm, Step, callsOf, Seen, observe, final, fresh, roomy, Comparable}
+use Rattle.model.proofs.Basics.{impossible}
 use Rattle.model.proofs.Computing.{computing}
 use Rattle.model.proofs.Witness.{zeros, byte, child, command, lending}
 use Rattle.model.proofs.Separation.{run, run-is, separation}
@@ -174,7 +174,7 @@ told-apart : {s t : List Seen} {d r : List ℕ} {u v : Table} → first s ≡ so
     → first t ≡ some (record { answer = gave (response r); records = v }) → s ≡ t → ⊥
 told-apart {d = d} {r = r} p q e =
     let k : some (gave (draft d)) ≡ some (gave (response r)) = ap (Option·map (λ s. s .answer)) (sym p ∙ ap first e ∙ q) in
-    let z : _≡_ {A = ℕ} 0 1 = cc in omega arith
+    impossible cc
 
 needed : (b : List Step) (f r : Bool) (n : ℕ) → callsOf (id 1) quiet ≡ callsOf (id 1) b → fresh [] b ≡ f → roomy (id 1) b [] ≡ r
     → first (observe (id 1) b []) ≡ some (told register n) → Needed b f r n

@@ -18,8 +18,12 @@ pub split {ℓ} : {G : Type ℓ} (b : Bool) → (b ≡ true → G) → (b ≡ fa
 split true f g = f refl
 split false f g = g refl
 
+-- where `cc` finds two constructors equal, anything follows: `impossible cc`
+pub impossible {ℓ} : {G : Type ℓ} → _≡_ {A = ℕ} 0 1 → G
+impossible z = absurd (omega arith)
+
 pub clash {ℓ} : {G : Type ℓ} {b : Bool} → b ≡ true → b ≡ false → G
-clash {b = b} p q = let z : _≡_ {A = ℕ} 0 1 = cc in absurd (omega arith)
+clash {b = b} p q = impossible cc
 
 pub and-left : (a b : Bool) → (a && b) ≡ true → a ≡ true
 and-left true b e = refl

@@ -15,7 +15,7 @@ use Rattle.model.specs.Layouts.{Layout, end, field, group, fields, size,
 use Rattle.model.specs.Commands.{refused, gave, keyRegistrationData, signedData, leastOutput}
 use Rattle.model.specs.Complete.{Completion, draftsOf, isDraft, completionOk, completed, complete}
 use Rattle.model.specs.Reader.{asserted, responses, isHandle, isSigned}
-use Rattle.model.proofs.Basics.{split, and-left, and-right, both, not-not, judged}
+use Rattle.model.proofs.Basics.{split, and-left, and-right, both, not-not, judged, impossible}
 use Rattle.model.proofs.Tlvs.{bytes-append, length-bytes}
 use Rattle.model.proofs.LayoutLaws.{fitAll, reads-written, fill-front, fitAll-front}
 use Rattle.model.proofs.PartLaws.{View, shown, nodes, lacks}
@@ -194,7 +194,7 @@ unfolding complete
 completion-passed c s =
     judged (λ r. r ≡ gave s → (isDraft (c .kind) (c .draft) ≡ true) × (completionOk c ≡ true) × (completed c ≡ s)) _ refused
     (gave (completed c))
-    (λ n q. let z : _≡_ {A = ℕ} 0 1 = cc in absurd (omega arith))
+    (λ n q. impossible cc)
     (λ h q. (not-not _ (h .1 .0), not-not _ (h .1 .1 .0), cc))
 
 pub completion-writes : (c : Completion) (s : List ℕ) (l : Layout) (vs : List (List ℕ)) → WrittenBy (draftsOf (c .kind)) l vs (c .draft)

@@ -14,7 +14,7 @@ use Rattle.model.specs.Tlv.{num, le, tlv, bytes, textPlain, uafV1Tlv, ch
 use Rattle.model.specs.Layouts.{fill, write}
 use Rattle.model.specs.Records.{Record, Table, own, keyIds, hasMixed, tableOk, maxOwn, maxRecords}
 use Rattle.model.specs.Commands.{Lent, Call, mixedOf, judge, response, draft, keep, add, isKey, apply, Decision, only, verdictStatus, infoResponse, decideGetInfo, registerDraft, registerChecks, decideRegister, decideSign, decideDeregister, decideOpenSettings, decide, Effect, perform}
-use Rattle.model.proofs.Basics.{split, clash, and-left, and-right, both, eqBytes-eq, eqBytes-not, eqBytes-sym, all-same, select-all}
+use Rattle.model.proofs.Basics.{split, clash, and-left, and-right, both, eqBytes-eq, eqBytes-not, eqBytes-sym, all-same, select-all, impossible}
 use Rattle.model.proofs.Rules.{obeys-rules}
 use Rattle.model.proofs.Separation.{other-apply}
 
@@ -166,7 +166,7 @@ pub record Stands (p : Record → Bool) (r : Record) (t : Table) : Type 0 where
   pub passes : p r ≡ true
 
 pub stands : (p : Record → Bool) (r : Record) (rs t : Table) → select p t ≡ r ∷ rs → Stands p r t
-stands p r rs [] e = let z : _≡_ {A = ℕ} 0 1 = cc in absurd (omega arith)
+stands p r rs [] e = impossible cc
 stands p r rs (x ∷ t) e =
     split (p x)
     (λ f.

@@ -6,7 +6,6 @@ use mathlib.Core.Bool.{true, false, not}
 use mathlib.Core.List.{List}
 use mathlib.Core.Logic.{_↔_}
 use Prim.Native.Nat.{ℕ, _≤_}
-use native.Mathlib.Omega.{arith}
 use borrow.Author.Tests.{not-true}
 use Rattle.model.specs.Lists.{any}
 use Rattle.model.specs.Tlv.{Bytes}
@@ -14,7 +13,7 @@ use Rattle.model.specs.Layouts.{reads}
 use Rattle.model.specs.Commands.{value, refused, gave, leastOutput}
 use Rattle.model.specs.Complete.{Completion, isDraft, completionOk, completed, complete}
 use Rattle.model.specs.Reader.{Reading, responses, isResponse, readResponse, isSigned}
-use Rattle.model.proofs.Basics.{split, clash, and-left}
+use Rattle.model.proofs.Basics.{split, clash, and-left, impossible}
 use Rattle.model.proofs.LayoutWritten.{all-member, any-found, outerTag, one-tag}
 use Rattle.model.proofs.CompletionWrites.{completion-passed, draft-reads}
 use Rattle.model.proofs.ReadBack.{CommandReadBack, command-read-back, DraftReadBack, draft-read-back}
@@ -27,7 +26,7 @@ use Rattle.model.proofs.ResponseWitness.{Origin, by-command, by-complet
 read-response : (s : List ℕ) (r : Reading) → readResponse s ≡ gave r → isResponse s ≡ true
 read-response s r e =
     split (isResponse s) (λ f. f)
-    (λ f. let g = not-read s f in let z : _≡_ {A = ℕ} 0 1 = cc in absurd (omega arith))
+    (λ f. let g = not-read s f in impossible cc)
 
 origin-read : (s : List ℕ) → Origin s → (r : Reading) × (readResponse s ≡ gave r)
 origin-read s (by-command k a) =

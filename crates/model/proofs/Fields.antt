@@ -11,7 +11,7 @@ use lib.Dec.{leb, eqb}
 use borrow.Author.Tests.{eqb-true, eq-eqb, leb-true, le-leb, not-true}
 use Rattle.model.specs.Lists.{all, select, first}
 use Rattle.model.specs.Tlv.{num, Tlv, tlvs, critical, composite, wellFormed, maxCommand, fills, Field, tagOf, fits, Kind, Listed, mandatory, fieldsOf, childOk, listed, valuesOf, timesOk, childrenOk, children, isRun, broken, fieldsIn, fieldIn}
-use Rattle.model.proofs.Basics.{split, clash, and-left, and-right, both, not-not, Each, all-each, each-all}
+use Rattle.model.proofs.Basics.{split, clash, and-left, and-right, both, not-not, Each, all-each, each-all, impossible}
 
 -- the children of a command that is not broken
 pub record Unbroken (k : Kind) (s : List ℕ) : Type 0 where
@@ -31,7 +31,7 @@ unbroken k s e = go (children s) refl (and-right (leb (length s) _) _ (not-not _
         record { held = ts; read = p; child = and-left children-ok _ q; times = and-right children-ok _ q }
 
 all-first : {A : Type 0} (p q : A → Bool) (xs : List A) {x : A} → all p xs ≡ true → first (select q xs) ≡ some x → p x ≡ true
-all-first p q [] e f = let z : _≡_ {A = ℕ} 0 1 = cc in absurd (omega arith)
+all-first p q [] e f = impossible cc
 all-first p q (y ∷ xs) {x} e f =
     split (q y)
     (λ h. let g : y ≡ x = cc in rw g at (and-left (p y) _ e))
@@ -118,7 +118,7 @@ command-rules k s b =
       each = all-each _ (Allowed k) (allowed k) (u .held) (u .child);
       times = all-each (timesOk (u .held)) _ (λ l e. (leb-true _ _ (and-left (leb (l .least) _) _ e), leb-true _ _ (and-right (leb (l .least) _) _ e))) (fieldsOf k) (u .times);
     })
-    (λ f. let g : none ≡ some (u .held) = rw f at (u .read) in let z : _≡_ {A = ℕ} 0 1 = cc in absurd (omega arith))
+    (λ f. let g : none ≡ some (u .held) = rw f at (u .read) in impossible cc)
 
 -- and one that obeys them breaks none
 pub command-ok : (k : Kind) (s : List ℕ) → CommandRules k s → broken k s ≡ false

@@ -16,7 +16,7 @@ use Rattle.model.specs.Layouts.{fill, write}
 use Rattle.model.specs.Records.{Record, Table, maxCount, maxRecords, maxOwn, recordOk, hasMixed, own, keyIds, tableOk}
 use Rattle.model.specs.Commands.{Call, Given, value, stored, mixedOf, Result, refused, gave, Answer, response, draft, Change, keep, add, setCount, remove, removeAll, isKey, withCount, apply, Decision, only, signOne, signChosen, chosen, decide, decideGetInfo, registerChecks, decideRegister, decideSign, decideDeregister, decideOpenSettings, Effect, outcome, perform, lentOk, tableOf, kind, refusals}
 use Rattle.model.specs.Traces.{Step, result, next, leftBy}
-use Rattle.model.proofs.Basics.{split, clash, and-left, and-right, both, or-left, or-right, not-not, eqBytes-eq, eqBytes-sym, all-append, all-map, select-append, select-comm, all-select, length-select, select-map, judged}
+use Rattle.model.proofs.Basics.{split, clash, and-left, and-right, both, or-left, or-right, not-not, eqBytes-eq, eqBytes-sym, all-append, all-map, select-append, select-comm, all-select, length-select, select-map, judged, impossible}
 use Rattle.model.proofs.StoredForm.{decode-ok}
 use Rattle.model.proofs.Rules.{record-rules, Tests, tests, tested}
 use Rattle.model.proofs.Fields.{field-fits}
@@ -25,7 +25,7 @@ use Rattle.model.proofs.Fields.{field-fits}
 
 guarded : {A : Type 0} (b : Bool) {x y : A} → cond b (some x) none ≡ some y → (b ≡ true) × (x ≡ y)
 guarded true e = (refl, cc)
-guarded false e = let z : _≡_ {A = ℕ} 0 1 = cc in absurd (omega arith)
+guarded false e = impossible cc
 
 pub given-ok : (g : Given) (t : Table) → tableOf g ≡ some t → tableOk t ≡ true
 unfolding tableOf
@@ -226,7 +226,7 @@ pub accepted : (c : Call) (g : Given) (e : Effect) → outcome c g ≡ gave e �
 unfolding outcome refusals
 accepted c g e =
     judged (λ r. r ≡ gave e → Accepted c g e) (refusals c g) refused _
-    (λ n p. let z : _≡_ {A = ℕ} 0 1 = cc in absurd (omega arith))
+    (λ n p. impossible cc)
     (λ p. go (tableOf g) refl (not-not _ (p .1 .0)) (not-not _ (p .1 .1 .1 .0)))
   where
     go : (o : Option Table) → tableOf g ≡ o → given o ≡ true → lentOk (kind c) (c .lent) ≡ true

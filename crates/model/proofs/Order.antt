@@ -14,7 +14,7 @@ use Rattle.model.specs.Lists.{all}
 use Rattle.model.specs.Tlv.{num, Tlv, tlvsPast, Kind, getInfo, register, sign, deregister, openSettings, Field, challengeHash, username, attestationType, keyHandle, keyIdOrNone, transactionContent, Listed, fieldsOf, tagOf, kindOf, fills, childOk, listed, valuesOf, timesOk, childrenOk, children, broken, fieldsIn, fieldIn}
 use Rattle.model.specs.Records.{Table}
 use Rattle.model.specs.Commands.{Lent, Given, decideGetInfo, registerDraft, registerChecks, decideRegister, hasContent, signDraft, signOne, signChosen, decideSign, decideDeregister, decideOpenSettings, decide, perform, refusals, outcome}
-use Rattle.model.proofs.Basics.{split}
+use Rattle.model.proofs.Basics.{split, impossible}
 use Rattle.model.proofs.Witness.{total}
 
 -- a run of children and another order of it: neighbours with different tags are exchanged, as often as one likes
@@ -76,16 +76,16 @@ children-reordered fs {ts} {us} r =
 run-length : (k : ℕ) (s : List ℕ) (ts : List Tlv) → tlvsPast k s ≡ some ts → length s ≡ k + total ts
 unfolding tlvsPast
 run-length zero [] ts e = let q : _≡_ {A = List Tlv} [] ts = cc in rw (← q)
-run-length zero (a ∷ []) ts e = let z : _≡_ {A = ℕ} 0 1 = cc in absurd (omega arith)
-run-length zero (a ∷ b ∷ []) ts e = let z : _≡_ {A = ℕ} 0 1 = cc in absurd (omega arith)
-run-length zero (a ∷ b ∷ c ∷ []) ts e = let z : _≡_ {A = ℕ} 0 1 = cc in absurd (omega arith)
+run-length zero (a ∷ []) ts e = impossible cc
+run-length zero (a ∷ b ∷ []) ts e = impossible cc
+run-length zero (a ∷ b ∷ c ∷ []) ts e = impossible cc
 run-length zero (a ∷ b ∷ c ∷ d ∷ s) ts e =
     let m = map-eq-some-iff _ _ .0 e in
     let n : ℕ = num (c ∷ d ∷ []) in
     let l : length s ≡ n + total (m .0) = run-length n s (m .0) (m .1) in
     let t : length (take n s) ≡ n = length-take-le n s (omega arith) in
     rw (← m .2) (omega (arith, l, t))
-run-length (suc k) [] ts e = let z : _≡_ {A = ℕ} 0 1 = cc in absurd (omega arith)
+run-length (suc k) [] ts e = impossible cc
 run-length (suc k) (x ∷ s) ts e = omega (arith, run-length k s ts e)
 
 command-length : (s : List ℕ) (ts : List Tlv) → children s ≡ some ts → length s ≡ 4 + total ts
@@ -96,7 +96,7 @@ command-length s ts e =
     let n : 4 + num (take 2 (drop 2 s)) ≡ length s = eqb-true _ _ f in
     let l : length (drop 4 s) ≡ 0 + total ts = run-length 0 (drop 4 s) ts (rw f at e) in
     omega (arith, n, l, length-drop 4 s))
-    (λ f. let g : none ≡ some ts = rw f at e in let z : _≡_ {A = ℕ} 0 1 = cc in absurd (omega arith))
+    (λ f. let g : none ≡ some ts = rw f at e in impossible cc)
 
 module _ (s u : List ℕ) {ts us : List Tlv} (a : children s ≡ some ts) (b : children u ≡ some us) (r : Reordered ts us) where
   -- both break a rule, or none does

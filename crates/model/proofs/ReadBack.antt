@@ -17,7 +17,7 @@ use Rattle.model.specs.Commands.{Call, Given, tableOf, Effect, gave, res
 use Rattle.model.specs.Records.{Table, Record, recordOk, maxCount}
 use Rattle.model.specs.Complete.{Completion, draftsOf, complete, isDraft}
 use Rattle.model.specs.Reader.{Part, Stretch, Reading, parts, fieldParts, cut, responses, isResponse, signedPart, stretch, readResponse, isSigned}
-use Rattle.model.proofs.Basics.{and-left, and-right, both, clash, passes}
+use Rattle.model.proofs.Basics.{and-left, and-right, both, clash, passes, impossible}
 use Rattle.model.proofs.Numbers.{num-le}
 use Rattle.model.proofs.LayoutLaws.{fitAll, tagsOk, most, fits-most, fits-least, fit-field, fit-group}
 use Rattle.model.proofs.PartLaws.{nodes, honest, View, view, parts-shown, shown-select, fieldsAt, fields-exact, fields-back, none-such}
@@ -117,7 +117,7 @@ module _ (s : List ℕ) (l : Layout) (vs : List (List ℕ)) (w : WrittenBy respo
 -- "Without a signed structure the stretch is empty"
 no-structure : (s : List ℕ) (ps : List Part) → map (view s) ps ≡ [] → stretch (first ps) ≡ stretch none
 no-structure s [] e = refl
-no-structure s (p ∷ ps) e = let z : _≡_ {A = ℕ} 0 1 = cc in absurd (omega arith)
+no-structure s (p ∷ ps) e = impossible cc
 
 -- these bytes are that stretch of the caller's own
 pub record IsStretch (s : List ℕ) (p : Stretch) (at : ℕ) (d : List ℕ) : Type 0 where
@@ -127,7 +127,7 @@ pub record IsStretch (s : List ℕ) (p : Stretch) (at : ℕ) (d : List ℕ) : Ty
 
 one-structure : (s : List ℕ) (ps : List Part) (v : View) (at : ℕ) (d : List ℕ) → map (view s) ps ≡ v ∷ [] → v .place ≡ at + 4
     → v .size + 4 ≡ length d → v .whole ≡ d → IsStretch s (stretch (first ps)) at d
-one-structure s [] v at d e a n h = let z : _≡_ {A = ℕ} 0 1 = cc in absurd (omega arith)
+one-structure s [] v at d e a n h = impossible cc
 one-structure s (p ∷ ps) v at d e a n h =
     let f : view s p ≡ v = cc in
     let g : p .place ≡ v .place = cc in

@@ -16,7 +16,7 @@ use Rattle.model.specs.Records.{Table, encode}
 use Rattle.model.specs.Commands.{Call, Given, Result, refused, gave, judge, lentOk, tableOf, refusals, Effect, perform, outcome, bytesOf, over, Outputs, outputs}
 use Rattle.model.specs.Complete.{Completion, isDraft, completionOk, completed, complete, outputOf}
 use Rattle.model.specs.Reader.{isResponse, signedPart, fieldParts, readResponse}
-use Rattle.model.proofs.Basics.{split, or-left, judged}
+use Rattle.model.proofs.Basics.{split, or-left, judged, impossible}
 use Rattle.model.proofs.StoredForm.{length-encode}
 use Rattle.model.proofs.Kept.{kept}
 use Rattle.model.proofs.CommandWrites.{answer-fits}
@@ -74,7 +74,7 @@ long-output : (c : Call) (g : Given) (e : Effect) → outcome c g ≡ gave e →
 unfolding outcome refusals
 long-output c g e =
     judged (λ r. r ≡ gave e → 4096 ≤ c .output) (refusals c g) refused _
-    (λ n p. let z : _≡_ {A = ℕ} 0 1 = cc in absurd (omega arith))
+    (λ n p. impossible cc)
     (λ p q. ltb-false _ _ (or-left _ _ (p .0)))
 
 pub response-over : (c : Call) (g : Given) (e : Effect) (o : Outputs) → outcome c g ≡ gave e → c .output ≤ length (o .response)

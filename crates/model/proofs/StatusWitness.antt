@@ -4,7 +4,6 @@ use mathlib.Core.Path.{_≡_, refl}
 use mathlib.Core.Bool.{Bool, true}
 use mathlib.Core.List.{List, [], _∷_, map}
 use Prim.Native.Nat.{ℕ}
-use native.Mathlib.Omega.{arith}
 use lib.ListN.{replicate}
 use lib.Dec.{ltb}
 use borrow.Author.Tests.{ltb-true}
@@ -14,7 +13,7 @@ use Rattle.model.specs.Layouts.{write}
 use Rattle.model.specs.Records.{Table, maxCount}
 use Rattle.model.specs.Commands.{statuses, Call, Result, refused, gave, Effect, Answer, response, statusOnly, value, outcome}
 use Rattle.model.specs.Traces.{answered}
-use Rattle.model.proofs.Basics.{either, clash, and-left, and-right, eqBytes-eq}
+use Rattle.model.proofs.Basics.{either, clash, and-left, and-right, eqBytes-eq, impossible}
 use Rattle.model.proofs.LayoutLaws.{AllBytes}
 use Rattle.model.proofs.Witness.{Answered, stretches, zeros, byte, child, calling, lendingZeros, registering, signing, kind-command}
 use Rattle.model.proofs.Computing.{computing}
@@ -106,7 +105,7 @@ answered-by : (k : Kind) (r : Try) (a : Answer) → inBytes k r ≡ true → tri
 answered-by k r a b h = go (outcome (call k r) (value (r .table))) refl h
   where
     go : (o : Result Effect) → outcome (call k r) (value (r .table)) ≡ o → answered o ≡ gave a → Answered k a
-    go (refused n) e h = let z : _≡_ {A = ℕ} 0 1 = cc in absurd (omega arith)
+    go (refused n) e h = impossible cc
     go (gave x) e h =
         record {
           call = call k r;

@@ -13,7 +13,7 @@ use Rattle.model.specs.Lists.{all, eqBytes}
 use Rattle.model.specs.Tlv.{Bytes, num, le, Tlv, tlv, bytes, tlvs, fits, keyId, mixedToken, username, counter, pairTag}
 use Rattle.model.specs.Layouts.{fill, write, matches}
 use Rattle.model.specs.Records.{Record, Table, maxCount, recordOk, own, maxRecords, tableOk, recordFields, storedRecord, encode, maxStored, storedAs, tableFrom, decode}
-use Rattle.model.proofs.Basics.{split, and-left, and-right, both}
+use Rattle.model.proofs.Basics.{split, and-left, and-right, both, impossible}
 use Rattle.model.proofs.Numbers.{length-le, bytes-le, num-le, le-num}
 use Rattle.model.proofs.Tlvs.{Sized, Held, bytes-append, tlvs-bytes, bytes-tlvs, bytes-join}
 use Rattle.model.proofs.LayoutLaws.{fitAll, AllBytes, fits-most, fits-least, length-write, tlvs-fill, matches-fill, matched, first-bytes, rest-bytes, write-bytes}
@@ -146,12 +146,12 @@ record Decoded (s : List ℕ) (t : Table) : Type 0 where
 
 from-tlvs : (s : List ℕ) (t : Table) (o : Option (List Tlv)) → tlvs s ≡ o → bind o tableFrom ≡ some t → Decoded s t
 unfolding bind
-from-tlvs s t none p e = let z : _≡_ {A = ℕ} 0 1 = cc in absurd (omega arith)
+from-tlvs s t none p e = impossible cc
 from-tlvs s t (some ts) p e =
     split (all matching ts && tableOk (map storedAs ts))
     (λ k. let q : map storedAs ts ≡ t = cc in
     record { run = ts; read = p; match = and-left _ _ k; same = q; obeys = rw (← q) (and-right (all matching ts) _ k) })
-    (λ k. let z : _≡_ {A = ℕ} 0 1 = cc in absurd (omega arith))
+    (λ k. impossible cc)
 
 decoded : (s : List ℕ) (t : Table) → decode s ≡ some t → Decoded s t
 unfolding decode

@@ -8,6 +8,7 @@ use native.Mathlib.Omega.{arith}
 use lib.ListN.{length, take, drop, length-append, take-append-drop}
 use lib.Seq.{take-append-seam, length-take-le}
 use Rattle.model.specs.Tlv.{Bytes, num, le, Tlv, tlv, bytes, header, tlvs, tlvsPast}
+use Rattle.model.proofs.Basics.{impossible}
 use Rattle.model.proofs.Numbers.{num-le, le-num, num-bound, bytes-le}
 
 -- tags and lengths are of 16 bits
@@ -84,13 +85,13 @@ unfolding tlvsPast bytes
 past zero [] ts h e =
     let q : _≡_ {A = List Tlv} [] ts = cc in
     rw (← q) (record { short = zero-le; rest = record { written = refl; sized = tt; held = tt } })
-past zero (a ∷ []) ts h e = let z : _≡_ {A = ℕ} 0 1 = cc in absurd (omega arith)
-past zero (a ∷ b ∷ []) ts h e = let z : _≡_ {A = ℕ} 0 1 = cc in absurd (omega arith)
-past zero (a ∷ b ∷ c ∷ []) ts h e = let z : _≡_ {A = ℕ} 0 1 = cc in absurd (omega arith)
+past zero (a ∷ []) ts h e = impossible cc
+past zero (a ∷ b ∷ []) ts h e = impossible cc
+past zero (a ∷ b ∷ c ∷ []) ts h e = impossible cc
 past zero (a ∷ b ∷ c ∷ d ∷ s) ts h e =
     let m = map-eq-some-iff _ _ .0 e in
     record { short = zero-le; rest = front h (past (num (c ∷ d ∷ [])) s (m .0) (h .1 .1 .1 .1) (m .1)) (m .2) }
-past (suc k) [] ts h e = let z : _≡_ {A = ℕ} 0 1 = cc in absurd (omega arith)
+past (suc k) [] ts h e = impossible cc
 past (suc k) (x ∷ s) ts h e =
     let p = past k s ts (h .1) e in
     record { short = omega (arith, p .short); rest = p .rest }
