@@ -82,6 +82,8 @@ pub data Allowed (k : Kind) (c : Tlv) : Type 0 where
   skipped : listed (fieldsOf k) (c .tag) ≡ none → critical (c .tag) ≡ false
       → (composite (c .tag) ≡ true → wellFormed 6 (c .value) ≡ true) → Allowed k c
 
+-- at most 8,192 bytes; its TLV ends with them; its value is a run of children, each of them allowed, and each listed one given as often as it
+-- must and may be
 pub record CommandRules (k : Kind) (s : List ℕ) : Type 0 where
   pub short : length s ≤ 8192
   pub ends : 4 + num (take 2 (drop 2 s)) ≡ length s
@@ -116,7 +118,10 @@ command-rules k s b =
       held = u .held;
       run = rw f at (u .read);
       each = all-each _ (Allowed k) (allowed k) (u .held) (u .child);
-      times = all-each (timesOk (u .held)) _ (λ l e. (leb-true _ _ (and-left (leb (l .least) _) _ e), leb-true _ _ (and-right (leb (l .least) _) _ e))) (fieldsOf k) (u .times);
+      times =
+          all-each (timesOk (u .held)) _
+          (λ l e. (leb-true _ _ (and-left (leb (l .least) _) _ e), leb-true _ _ (and-right (leb (l .least) _) _ e)))
+          (fieldsOf k) (u .times);
     })
     (λ f. let g : none ≡ some (u .held) = rw f at (u .read) in impossible cc)
 

@@ -4,18 +4,19 @@ use mathlib.Core.Path.{_≡_, refl, sym, _∙_}
 use mathlib.Core.Bool.{Bool}
 use mathlib.Core.List.{List, [], _∷_, _++_}
 use mathlib.Core.Option.{Option, none, some, map-eq-some-iff}
-use Prim.Native.Nat.{ℕ, zero, suc, _+_}
+use Prim.Native.Nat.{ℕ, zero, suc, _+_, _≤_}
 use native.Mathlib.Omega.{arith}
 use lib.ListN.{length, take, drop, length-drop}
 use lib.Seq.{length-take-le}
 use lib.Dec.{eqb}
 use borrow.Author.Tests.{eqb-true}
 use Rattle.model.specs.Lists.{all}
-use Rattle.model.specs.Tlv.{num, Tlv, tlvsPast, Kind, getInfo, register, sign, deregister, openSettings, Field, challengeHash, username, attestationType, keyHandle, keyIdOrNone, transactionContent, Listed, fieldsOf, tagOf, kindOf, fills, childOk, listed, valuesOf, timesOk, childrenOk, children, broken, fieldsIn, fieldIn}
+use Rattle.model.specs.Tlv.{num, Tlv, tlvsPast, Kind, getInfo, register, sign, deregister, openSettings, Field, challengeHash, username, attestationType, keyHandle, keyIdOrNone, transactionContent, Listed, fieldsOf, tagOf, kindOf, fills, maxCommand, childOk, listed, valuesOf, timesOk, childrenOk, children, broken, fieldsIn, fieldIn}
 use Rattle.model.specs.Records.{Table}
 use Rattle.model.specs.Commands.{Lent, Given, decideGetInfo, registerDraft, registerChecks, decideRegister, hasContent, signDraft, signOne, signChosen, decideSign, decideDeregister, decideOpenSettings, decide, perform, refusals, outcome}
 use Rattle.model.proofs.Basics.{split, impossible}
-use Rattle.model.proofs.Witness.{total}
+use Rattle.model.proofs.Tlvs.{Sized}
+use Rattle.model.proofs.Witness.{command, total, children-command}
 
 -- a run of children and another order of it: neighbours with different tags are exchanged, as often as one likes
 pub data Reordered : List Tlv → List Tlv → Type 0 where
@@ -27,14 +28,16 @@ pub data Reordered : List Tlv → List Tlv → Type 0 where
 
 module _ (x y : Tlv) (b : List Tlv) where
   all-exchanged : (p : Tlv → Bool) (a : List Tlv) → all p (a ++ (x ∷ y ∷ b)) ≡ all p (a ++ (y ∷ x ∷ b))
-  all-exchanged p [] = split (p x) (λ e. split (p y) (λ f. rw (e, f)) (λ f. rw (e, f))) (λ e. split (p y) (λ f. rw (e, f)) (λ f. rw (e, f)))
+  all-exchanged p [] =
+      split (p x) (λ e. split (p y) (λ f. rw (e, f)) (λ f. rw (e, f))) (λ e. split (p y) (λ f. rw (e, f)) (λ f. rw (e, f)))
   all-exchanged p (z ∷ a) = rw (all-exchanged p a)
 
   total-exchanged : (a : List Tlv) → total (a ++ (x ∷ y ∷ b)) ≡ total (a ++ (y ∷ x ∷ b))
   total-exchanged [] = omega arith
   total-exchanged (z ∷ a) = omega (arith, total-exchanged a)
 
-  values-exchanged : (f : Field) → (x .tag ≡ y .tag → ⊥) → (a : List Tlv) → valuesOf f (a ++ (x ∷ y ∷ b)) ≡ valuesOf f (a ++ (y ∷ x ∷ b))
+  values-exchanged : (f : Field) → (x .tag ≡ y .tag → ⊥) → (a : List Tlv)
+      → valuesOf f (a ++ (x ∷ y ∷ b)) ≡ valuesOf f (a ++ (y ∷ x ∷ b))
   values-exchanged f n [] =
       split (eqb (x .tag) (tagOf f))
       (λ e. split (eqb (y .tag) (tagOf f)) (λ g. absurd (n (eqb-true _ _ e ∙ sym (eqb-true _ _ g)))) (λ g. rw (e, g)))
@@ -137,3 +140,20 @@ module _ (s u : List ℕ) {ts us : List Tlv} (a : children s ≡ some ts) (b : c
       ≡ outcome (record { command = u; lent = l; output = n; tableOutput = o }) g
   unfolding outcome refusals perform
   any-order-call l n o g e = rw (e, any-order)
+
+-- ---- commands made of such children
+
+sized-exchanged : (a : List Tlv) (x y : Tlv) (b : List Tlv) → Sized (a ++ (x ∷ y ∷ b)) → Sized (a ++ (y ∷ x ∷ b))
+sized-exchanged [] x y b (t, n, (u, m, z)) = (u, m, (t, n, z))
+sized-exchanged (w ∷ a) x y b (t, n, z) = (t, n, sized-exchanged a x y b z)
+
+sized-reordered : {ts us : List Tlv} → Reordered ts us → Sized ts → Sized us
+sized-reordered as-it-was z = z
+sized-reordered (exchanged a x y b n r) z = sized-reordered r (sized-exchanged a x y b z)
+
+-- each order of the children is a command, and all of them are decided alike
+pub any-order-written : (k : Kind) {ts us : List Tlv} → Sized ts → 4 + total ts ≤ maxCommand → Reordered ts us → (l : Lent) (mine : Table)
+    (taken filled : Bool) → decide k (command k ts) l mine taken filled ≡ decide k (command k us) l mine taken filled
+any-order-written k {ts} {us} z m r l mine taken filled =
+    any-order (command k ts) (command k us) (children-command k ts z m)
+    (children-command k us (sized-reordered r z) (omega (arith, total-reordered r))) r k l mine taken filled

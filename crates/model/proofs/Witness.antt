@@ -138,7 +138,7 @@ length-total [] = refl
 length-total (t ∷ ts) = rw (length-bytes, length-total ts)
 
 module _ (k : Kind) (ts : List Tlv) (z : Sized ts) (m : 4 + total ts ≤ maxCommand) where
-  children-command : children (command k ts) ≡ some ts
+  pub children-command : children (command k ts) ≡ some ts
   unfolding children bytes le
   children-command =
       let n : num (le 2 (length (bytes ts))) ≡ length (bytes ts) = num-le 2 (length (bytes ts)) (omega (arith, length-total ts)) in

@@ -154,12 +154,14 @@ only k c n = record { answer = response (write (statusOnly k) (le 2 n ∷ [])); 
 -- ---- GetInfo: "STATUS_CODE OK 0x00, API_VERSION (1 byte) 1, AUTHENTICATOR_INFO with index, AAID, METADATA, content type text/plain,
 -- the eight letters UAFV1TLV as ASSERTION_SCHEME, then one ATTESTATION_TYPE each for 0x3E07 and 0x3E08, in this order"
 
+-- in AUTHENTICATOR_INFO, and the whole
 abbrev pub infoInner : Layout
 infoInner = fields (index ∷ aaid ∷ metadata ∷ contentType ∷ assertionScheme ∷ fullType ∷ surrogateType ∷ [])
 
 abbrev pub info : Layout
 info = group (responseTag getInfo) (field ok (field apiVersion (group infoTag infoInner end))) end
 
+-- their values
 abbrev pub infoInnerFields : (aaid metadata : List ℕ) → List (List ℕ)
 infoInnerFields a m = (0 ∷ []) ∷ a ∷ m ∷ textPlain ∷ uafV1Tlv ∷ le 2 full ∷ le 2 surrogate ∷ []
 
@@ -187,7 +189,8 @@ verdictStatus v = getD (0x00 ∷ verdictStatuses) v 0x00
 abbrev pub userChecks : Bool → ℕ → List Check
 userChecks breaks verdict = check 0x08 breaks ∷ check (verdictStatus verdict) (not (eqb verdict 0)) ∷ []
 
--- mine: the caller's records; taken: the KeyID is stored, by anybody; filled: there are 32 records in all
+-- "0x07 if the type is neither of the two; ERR_UNKNOWN 0x01 if the KeyID is stored; INSUFFICIENT_RESOURCES 0x0F at 8 own records or 32 in
+-- all"; mine: the caller's records; taken: the KeyID is stored, by anybody; filled: there are 32 records in all
 unfoldable pub registerChecks : List ℕ → Lent → Table → Bool → Bool → List Check
 registerChecks s l mine taken filled =
     let type = num (fieldIn attestationType s) in
@@ -301,7 +304,7 @@ decideDeregister s mine =
     let k = fieldIn keyIdOrNone s in
     judge (deregisterChecks s mine) (only deregister keep) (only deregister (cond (empty k) removeAll (remove k)) 0x00)
 
--- ---- Open settings
+-- ---- Open settings: "0x08, else CMD_NOT_SUPPORTED 0x06"
 
 unfoldable pub decideOpenSettings : List ℕ → Decision
 decideOpenSettings s = judge (check 0x08 (broken openSettings s) ∷ []) (only openSettings keep) (only openSettings keep 0x06)
