@@ -20,57 +20,18 @@ use Rattle.tlv.specs.declared.heads.Span.{Span}
 use Rattle.tlv.specs.declared.heads.Head.{Head}
 use Rattle.tlv.specs.declared.heads.Head.the-variants.{Tlv as Found, Bad, End}
 use Rattle.tlv.proofs.HeadLaws.{IsTlv, tlv-is, run-end, run-bad, run-tlv, length-part}
-use Rattle.fields.specs.Fields.{named, allows, allowedFor, ruleWith, RuleIs, fieldIn, fieldAt}
+use Rattle.fields.specs.Fields.{named, allows, ruleWith, RuleIs, fieldIn, fieldAt}
+use Rattle.fields.specs.declared.Allowed.{Allowed}
 use Rattle.fields.specs.declared.Rule.{Rule}
 use Rattle.fields.specs.declared.Field.{Field}
-use Rattle.fields.specs.declared.Field.the-variants.{Index, AppId, ChallengeHash, Username, AttestationType, AccessToken, KeyHandle, KeyId, KeyIdOrNone, UserVerifyToken, TransactionContent, MixedToken, Counter, Aaid, Metadata, PublicKey, Nonce, ContentHash, NoContentHash, ApiVersion, ContentType, AssertionScheme, FullType, SurrogateType, KrdInfo, SignedInfo, ContentInfo, NoCounts, NewCount, Signature, Certificate, StatusOk, GetInfoStatus, RegisterStatus, SignStatus, DeregisterStatus, OpenSettingsStatus}
 use Rattle.fields.specs.declared.Found.the-variants.{At, Missing}
-
-allowed-as : (f : Field) (v : List ℕ) → ruleOf (named f) .allowed v ≡ allows (allowedFor f) v
-allowed-as Index v = refl
-allowed-as AppId v = refl
-allowed-as ChallengeHash v = refl
-allowed-as Username v = refl
-allowed-as AttestationType v = refl
-allowed-as AccessToken v = refl
-allowed-as KeyHandle v = refl
-allowed-as KeyId v = refl
-allowed-as KeyIdOrNone v = refl
-allowed-as UserVerifyToken v = refl
-allowed-as TransactionContent v = refl
-allowed-as MixedToken v = refl
-allowed-as Counter v = refl
-allowed-as Aaid v = refl
-allowed-as Metadata v = refl
-allowed-as PublicKey v = refl
-allowed-as Nonce v = refl
-allowed-as ContentHash v = refl
-allowed-as NoContentHash v = refl
-allowed-as ApiVersion v = refl
-allowed-as ContentType v = refl
-allowed-as AssertionScheme v = refl
-allowed-as FullType v = refl
-allowed-as SurrogateType v = refl
-allowed-as KrdInfo v = refl
-allowed-as SignedInfo v = refl
-allowed-as ContentInfo v = refl
-allowed-as NoCounts v = refl
-allowed-as NewCount v = refl
-allowed-as Signature v = refl
-allowed-as Certificate v = refl
-allowed-as StatusOk v = refl
-allowed-as GetInfoStatus v = refl
-allowed-as RegisterStatus v = refl
-allowed-as SignStatus v = refl
-allowed-as DeregisterStatus v = refl
-allowed-as OpenSettingsStatus v = refl
 
 -- ---- a value against a rule of the table
 
--- the rule of a field by its name
-pub rule-is : (f : Field) {g : Field} {r : Rule} → g ≡ f
-    → r ≡ ruleWith (tagOf (named f)) (ruleOf (named f) .least) (ruleOf (named f) .most) (allowedFor f) → RuleIs g r
-rule-is f e p = rw (e, p) (record { tag-is = refl; least-is = refl; most-is = refl; allowed-is = refl })
+-- the rule of a field by its name: its numbers, and something that is asked of a value just as the model asks it
+pub rule-is : (f : Field) {g : Field} {a : Allowed} {r : Rule} → ((v : List ℕ) → allows a v ≡ ruleOf (named f) .allowed v) → g ≡ f
+    → r ≡ ruleWith (tagOf (named f)) (ruleOf (named f) .least) (ruleOf (named f) .most) a → RuleIs g r
+rule-is f q e p = rw (e, p) (record { tag-is = refl; least-is = refl; most-is = refl; allowed-is = q })
 
 module _ (f : Field) (v : List ℕ) (r : Rule) (i : RuleIs f r) where
   pub fits-short : length v < r .least → fits (named f) v ≡ false
@@ -84,7 +45,7 @@ module _ (f : Field) (v : List ℕ) (r : Rule) (i : RuleIs f r) where
   pub fits-else : r .least ≤ length v → length v ≤ r .most → fits (named f) v ≡ allows (r .allowed) v
   unfolding fits
   fits-else h k =
-      simp (le-leb _ _ (rw (i .least-is) at h), le-leb _ _ (rw (i .most-is) at k)) (allowed-as f v ∙ rw (i .allowed-is))
+      simp (le-leb _ _ (rw (i .least-is) at h), le-leb _ _ (rw (i .most-is) at k)) (sym (i .allowed-is v))
 
 -- ---- what the header at a place makes of a field
 

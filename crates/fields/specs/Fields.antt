@@ -14,13 +14,25 @@ use Rattle.tlv.specs.Spans.{span}
 use Rattle.tlv.specs.declared.heads.Head.{Head}
 use Rattle.tlv.specs.declared.heads.Head.the-variants.{Tlv, Bad, End}
 use Rattle.fields.specs.declared.Allowed.{Allowed}
-use Rattle.fields.specs.declared.Allowed.the-variants.{Any, Zero, EmptyOrKeyId, One, TextPlain, UafV1Tlv, Full, Surrogate, ZeroCounts, NotZero, Mode1, Mode2, Ok, OfGetInfo, OfRegister, OfSign, OfDeregister, OfOpenSettings}
+use Rattle.fields.specs.declared.Allowed.the-variants.{Any, Zero, EmptyOrKeyId, One, TextPlain, UafV1Tlv, Full, Surrogate, ZeroCounts, NotZero, Mode1, Mode2, Among}
 use Rattle.fields.specs.declared.Rule.{Rule}
 use Rattle.fields.specs.declared.Field.{Field}
-use Rattle.fields.specs.declared.Field.the-variants.{Index, AppId, ChallengeHash, Username, AttestationType, AccessToken, KeyHandle, KeyId, KeyIdOrNone, UserVerifyToken, TransactionContent, MixedToken, Counter, Aaid, Metadata, PublicKey, Nonce, ContentHash, NoContentHash, ApiVersion, ContentType, AssertionScheme, FullType, SurrogateType, KrdInfo, SignedInfo, ContentInfo, NoCounts, NewCount, Signature, Certificate, StatusOk, GetInfoStatus, RegisterStatus, SignStatus, DeregisterStatus, OpenSettingsStatus}
+use Rattle.fields.specs.declared.Field.the-variants.{Index, AppId, ChallengeHash, Username, AttestationType, AccessToken, KeyHandle, KeyId, KeyIdOrNone, UserVerifyToken, TransactionContent, MixedToken, Counter, Aaid, Metadata, PublicKey, Nonce, ContentHash, NoContentHash, ApiVersion, ContentType, AssertionScheme, FullType, SurrogateType, KrdInfo, SignedInfo, ContentInfo, NoCounts, NewCount, Signature, Certificate, Status}
+use Rattle.fields.specs.declared.Statuses.{Statuses}
+use Rattle.fields.specs.declared.Statuses.the-variants.{Ok, OfGetInfo, OfRegister, OfSign, OfDeregister, OfOpenSettings}
 use Rattle.fields.specs.declared.Found.{Found}
 use Rattle.fields.specs.declared.Found.the-variants.{At, Missing}
 
+-- the statuses that may stand at a place
+abbrev pub statusesIn : Statuses → List ℕ
+statusesIn Ok = 0x00 ∷ []
+statusesIn OfGetInfo = statuses model.getInfo
+statusesIn OfRegister = statuses model.register
+statusesIn OfSign = statuses model.sign
+statusesIn OfDeregister = statuses model.deregister
+statusesIn OfOpenSettings = statuses model.openSettings
+
+-- the model's field
 abbrev pub named : Field → model.Field
 named Index = model.index
 named AppId = model.appId
@@ -53,17 +65,9 @@ named NoCounts = model.noCounts
 named NewCount = model.newCount
 named Signature = model.signature
 named Certificate = model.certificate
-named StatusOk = model.ok
-named GetInfoStatus = model.statusAmong (statuses model.getInfo)
-named RegisterStatus = model.statusAmong (statuses model.register)
-named SignStatus = model.statusAmong (statuses model.sign)
-named DeregisterStatus = model.statusAmong (statuses model.deregister)
-named OpenSettingsStatus = model.statusAmong (statuses model.openSettings)
+named (Status w) = model.statusAmong (statusesIn w)
 
 -- what else is asked of a value
-abbrev isStatus : List ℕ → List ℕ → Bool
-isStatus ns v = among v (map (le 2) ns)
-
 abbrev pub allows : Allowed → List ℕ → Bool
 allows Any v = true
 allows Zero v = eqBytes (0 ∷ []) v
@@ -77,51 +81,7 @@ allows ZeroCounts v = eqBytes (le 4 0 ++ le 4 0) v
 allows NotZero v = ltb 0 (num v)
 allows Mode1 v = eqb (getD v 2 0) 0x01
 allows Mode2 v = eqb (getD v 2 0) 0x02
-allows Ok v = isStatus (0x00 ∷ []) v
-allows OfGetInfo v = isStatus (statuses model.getInfo) v
-allows OfRegister v = isStatus (statuses model.register) v
-allows OfSign v = isStatus (statuses model.sign) v
-allows OfDeregister v = isStatus (statuses model.deregister) v
-allows OfOpenSettings v = isStatus (statuses model.openSettings) v
-
-abbrev pub allowedFor : Field → Allowed
-allowedFor Index = Zero
-allowedFor AppId = Any
-allowedFor ChallengeHash = Any
-allowedFor Username = Any
-allowedFor AttestationType = Any
-allowedFor AccessToken = Any
-allowedFor KeyHandle = Any
-allowedFor KeyId = Any
-allowedFor KeyIdOrNone = EmptyOrKeyId
-allowedFor UserVerifyToken = Any
-allowedFor TransactionContent = Any
-allowedFor MixedToken = Any
-allowedFor Counter = Any
-allowedFor Aaid = Any
-allowedFor Metadata = Any
-allowedFor PublicKey = Any
-allowedFor Nonce = Any
-allowedFor ContentHash = Any
-allowedFor NoContentHash = Any
-allowedFor ApiVersion = One
-allowedFor ContentType = TextPlain
-allowedFor AssertionScheme = UafV1Tlv
-allowedFor FullType = Full
-allowedFor SurrogateType = Surrogate
-allowedFor KrdInfo = Mode1
-allowedFor SignedInfo = Mode1
-allowedFor ContentInfo = Mode2
-allowedFor NoCounts = ZeroCounts
-allowedFor NewCount = NotZero
-allowedFor Signature = Any
-allowedFor Certificate = Any
-allowedFor StatusOk = Ok
-allowedFor GetInfoStatus = OfGetInfo
-allowedFor RegisterStatus = OfRegister
-allowedFor SignStatus = OfSign
-allowedFor DeregisterStatus = OfDeregister
-allowedFor OpenSettingsStatus = OfOpenSettings
+allows (Among w) v = among v (map (le 2) (statusesIn w))
 
 abbrev pub ruleWith : ℕ → ℕ → ℕ → Allowed → Rule
 ruleWith t m n a = record { tag = t; least = m; most = n; allowed = a }
@@ -131,7 +91,7 @@ pub record RuleIs (f : Field) (r : Rule) : Type 0 where
   pub tag-is : r .tag ≡ tagOf (named f)
   pub least-is : r .least ≡ ruleOf (named f) .least
   pub most-is : r .most ≡ ruleOf (named f) .most
-  pub allowed-is : r .allowed ≡ allowedFor f
+  pub allowed-is : (v : List ℕ) → allows (r .allowed) v ≡ ruleOf (named f) .allowed v
 
 -- a TLV with the field's tag, whose value obeys its rule
 abbrev pub fieldIn : model.Field → List ℕ → Head → Found

@@ -12,7 +12,7 @@ ghost use lib.ListN.{getD};
 ghost use lib.Dec.{ltb, eqb};
 ghost use Rattle.model.specs.Lists.{among};
 ghost use Rattle.model.specs.Tlv.{num, le, fits};
-ghost use Rattle.fields.specs.Fields.{named, allows, ruleWith, RuleIs, fieldAt};
+ghost use Rattle.fields.specs.Fields.{statusesIn, named, allows, ruleWith, RuleIs, fieldAt};
 ghost use Rattle.fields.specs.declared.Allowed.the-variants.{Any};
 
 // "A command is at most 8,192 bytes".
@@ -54,12 +54,17 @@ pub enum Field {
     NewCount,
     Signature,
     Certificate,
-    StatusOk,
-    GetInfoStatus,
-    RegisterStatus,
-    SignStatus,
-    DeregisterStatus,
-    OpenSettingsStatus,
+    Status(Statuses),
+}
+
+// Which statuses may stand at a place: OK beside other fields, or one of those that a command answers alone.
+pub enum Statuses {
+    Ok,
+    OfGetInfo,
+    OfRegister,
+    OfSign,
+    OfDeregister,
+    OfOpenSettings,
 }
 
 // What else is asked of a value than its length.
@@ -76,12 +81,7 @@ pub enum Allowed {
     NotZero,
     Mode1,
     Mode2,
-    Ok,
-    OfGetInfo,
-    OfRegister,
-    OfSign,
-    OfDeregister,
-    OfOpenSettings,
+    Among(Statuses),
 }
 
 // A field's tag, the least and the greatest length of its value, and what else is asked of it.
@@ -156,12 +156,7 @@ pub fn rule_of(f: Field) -> Rule
         Field::NewCount => exactly(tags::COUNTERS, 4, Allowed::NotZero),
         Field::Signature => sized(tags::SIGNATURE, 1, 512),
         Field::Certificate => sized(tags::CERT, 1, 2048),
-        Field::StatusOk => exactly(tags::STATUS_CODE, 2, Allowed::Ok),
-        Field::GetInfoStatus => exactly(tags::STATUS_CODE, 2, Allowed::OfGetInfo),
-        Field::RegisterStatus => exactly(tags::STATUS_CODE, 2, Allowed::OfRegister),
-        Field::SignStatus => exactly(tags::STATUS_CODE, 2, Allowed::OfSign),
-        Field::DeregisterStatus => exactly(tags::STATUS_CODE, 2, Allowed::OfDeregister),
-        Field::OpenSettingsStatus => exactly(tags::STATUS_CODE, 2, Allowed::OfOpenSettings),
+        Field::Status(w) => exactly(tags::STATUS_CODE, 2, Allowed::Among(w)),
     }
 }
 
@@ -177,6 +172,20 @@ fn is_status(v: &[u8], statuses: &[u8]) -> bool
         i += 1;
     }
     false
+}
+
+// Whether a value is one of the statuses that may stand there.
+fn is_among(v: &[u8], w: Statuses) -> bool
+    ensures { λ r. ⌜ r ≡ among (now (v .entry)) (map (le 2) (statusesIn w)) ⌝ }
+{
+    match w {
+        Statuses::Ok => is_status(v, b"\x00"),
+        Statuses::OfGetInfo => is_status(v, b"\x08"),
+        Statuses::OfRegister => is_status(v, b"\x01\x02\x03\x05\x07\x08\x0E\x0F\x10"),
+        Statuses::OfSign => is_status(v, b"\x01\x02\x03\x04\x05\x08\x0E\x10"),
+        Statuses::OfDeregister => is_status(v, b"\x00\x02\x08"),
+        Statuses::OfOpenSettings => is_status(v, b"\x06\x08"),
+    }
 }
 
 // Whether a value's third byte is this mode.
@@ -224,12 +233,7 @@ fn is_allowed(a: Allowed, v: &[u8]) -> bool
         Allowed::NotZero => is_not_zero(v),
         Allowed::Mode1 => has_mode(v, 0x01),
         Allowed::Mode2 => has_mode(v, 0x02),
-        Allowed::Ok => is_status(v, b"\x00"),
-        Allowed::OfGetInfo => is_status(v, b"\x08"),
-        Allowed::OfRegister => is_status(v, b"\x01\x02\x03\x05\x07\x08\x0E\x0F\x10"),
-        Allowed::OfSign => is_status(v, b"\x01\x02\x03\x04\x05\x08\x0E\x10"),
-        Allowed::OfDeregister => is_status(v, b"\x00\x02\x08"),
-        Allowed::OfOpenSettings => is_status(v, b"\x06\x08"),
+        Allowed::Among(w) => is_among(v, w),
     }
 }
 

@@ -1,5 +1,6 @@
 use columns::all_distinct;
 use fields::Field;
+use fields::Statuses;
 use fields::tags;
 use layouts::Group;
 use layouts::after;
@@ -52,7 +53,7 @@ pub fn is_name_list(s: &[u8]) -> bool
     ensures { λ r. ⌜ r ≡ (any (λ n. reads (nameList n) (now (s .entry))) listLengths && distinct (listedKeys (now (s .entry)))) ⌝ }
 {
     let a1 = enter(s, 0, tags::SIGN_CMD_RESPONSE);
-    let a2 = after(s, a1, Field::StatusOk);
+    let a2 = after(s, a1, Field::Status(Statuses::Ok));
     let keys = keys_from(s, a2);
     let n = keys.len;
     if n < 2 {

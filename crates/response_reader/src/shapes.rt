@@ -1,5 +1,6 @@
 use crate::names::is_name_list;
 use fields::Field;
+use fields::Statuses;
 use fields::tags;
 use layouts::Group;
 use layouts::after;
@@ -32,7 +33,7 @@ fn is_info(s: &[u8]) -> bool
     ensures { λ r. ⌜ r ≡ reads info (now (s .entry)) ⌝ }
 {
     let a1 = enter(s, 0, tags::GETINFO_CMD_RESPONSE);
-    let a2 = after(s, a1, Field::StatusOk);
+    let a2 = after(s, a1, Field::Status(Statuses::Ok));
     let a3 = after(s, a2, Field::ApiVersion);
     let a4 = enter(s, a3, tags::AUTHENTICATOR_INFO);
     let a5 = after(s, a4, Field::Index);
@@ -50,7 +51,7 @@ fn assertion_in(s: &[u8], response: usize, assertion: usize) -> usize
     ensures { λ r. ⌜ r ≡ inAssertion response assertion (now (s .entry)) ⌝ }
 {
     let a1 = enter(s, 0, response);
-    let a2 = after(s, a1, Field::StatusOk);
+    let a2 = after(s, a1, Field::Status(Statuses::Ok));
     let a3 = enter(s, a2, tags::AUTHENTICATOR_ASSERTION);
     enter(s, a3, assertion)
 }
@@ -118,19 +119,27 @@ pub fn is_response(s: &[u8]) -> bool
     let tag = get16(s, 0);
     match tag {
         tags::GETINFO_CMD_RESPONSE => {
-            if is_status(s, tags::GETINFO_CMD_RESPONSE, Field::GetInfoStatus) {
+            if is_status(
+                s,
+                tags::GETINFO_CMD_RESPONSE,
+                Field::Status(Statuses::OfGetInfo),
+            ) {
                 return true;
             }
             is_info(s)
         }
         tags::REGISTER_CMD_RESPONSE => {
-            if is_status(s, tags::REGISTER_CMD_RESPONSE, Field::RegisterStatus) {
+            if is_status(
+                s,
+                tags::REGISTER_CMD_RESPONSE,
+                Field::Status(Statuses::OfRegister),
+            ) {
                 return true;
             }
             is_registered(s)
         }
         tags::SIGN_CMD_RESPONSE => {
-            if is_status(s, tags::SIGN_CMD_RESPONSE, Field::SignStatus) {
+            if is_status(s, tags::SIGN_CMD_RESPONSE, Field::Status(Statuses::OfSign)) {
                 return true;
             }
             if is_signed(s) {
@@ -141,12 +150,12 @@ pub fn is_response(s: &[u8]) -> bool
         tags::DEREGISTER_CMD_RESPONSE => is_status(
             s,
             tags::DEREGISTER_CMD_RESPONSE,
-            Field::DeregisterStatus,
+            Field::Status(Statuses::OfDeregister),
         ),
         tags::OPEN_SETTINGS_CMD_RESPONSE => is_status(
             s,
             tags::OPEN_SETTINGS_CMD_RESPONSE,
-            Field::OpenSettingsStatus,
+            Field::Status(Statuses::OfOpenSettings),
         ),
         _ => false,
     }
