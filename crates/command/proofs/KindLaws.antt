@@ -37,6 +37,17 @@ pub kind-named : (s : List ℕ) (tag : ℕ) → 4 ≤ length s → tag ≡ numAt
 unfolding kindOf numAt
 kind-named s tag h e = rw e (simp (le-leb _ _ h))
 
+-- a tag that is none of the commands'
+select-none : {K : Type 0} (tag : ℕ) (ks : List model.Kind) → NoneOf commandTag K tag ks
+    → K × (select (λ k. eqb tag (commandTag k)) ks ≡ [])
+select-none tag [] h = (h, refl)
+select-none tag (k ∷ ks) h =
+    let rest = select-none tag ks h in
+    (rest .0 .0, rw (ne-eqb tag (commandTag k) (rest .0 .1)) (rest .1))
+
+pub kind-none : (tag : ℕ) → NoneOf commandTag (Unit {0}) tag kinds → kindWith tag ≡ none
+kind-none tag h = ap first (select-none tag kinds h .1)
+
 -- ---- slots and tags
 
 -- a number is none of those below another

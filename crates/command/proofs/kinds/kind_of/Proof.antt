@@ -1,8 +1,7 @@
 use denote.Ref.{now}
 use mathlib.Core.Path.{_≡_, sym, _∙_}
-use borrow.Author.Tests.{ne-eqb}
 use Rattle.model.specs.Tlv.{kindOf}
-use Rattle.command.proofs.KindLaws.{kindWith, kind-short, kind-named}
+use Rattle.command.proofs.KindLaws.{kindWith, kind-short, kind-named, kind-none}
 use borrow.Author.Needs.{needs}
 use Rattle.command.proofs.kinds.kind_of.Statement.{statement}
 use Rattle.command.proofs.kinds.kind_of.Tie as tie
@@ -33,7 +32,7 @@ returns-6 : tie.Need-returns-6
 returns-6 c = sym (named (c .before) ∙ rw (c .match .keys5))
 
 returns-7 : tie.Need-returns-7
-returns-7 c = let r = c .match .rest in sym (named (c .before) ∙ simp (ne-eqb _ _ (r .1), ne-eqb _ _ (r .0 .1), ne-eqb _ _ (r .0 .0 .1), ne-eqb _ _ (r .0 .0 .0 .1), ne-eqb _ _ (r .0 .0 .0 .0 .1)))
+returns-7 c = sym (named (c .before) ∙ kind-none _ (c .match .rest))
 
 pub kind-of-spec : {M : Type 1} → statement M
 kind-of-spec =
