@@ -8,6 +8,7 @@ use Rattle.model.specs.Complete.{Completion, outputOf}
 use Rattle.assertion.specs.declared.Completed.{Completed}
 use Rattle.assertion.specs.declared.Completed.the-variants.{Refused, Wrote}
 
+-- a completion of these
 abbrev pub completion : (kind : ℕ) → (draft : List ℕ) → (type : ℕ) → (signature certificate : List ℕ) → (output : ℕ) → Completion
 completion k d t s c n = record { kind = k; draft = d; type = t; signature = s; certificate = c; output = n }
 
@@ -21,13 +22,16 @@ pub record Ended : Type 0 where
   pub result : Result ℕ
   pub response : List ℕ
 
+-- both, from what the function gives and leaves
 abbrev pub ended : Completed → List ℕ → Ended
 ended r out = record { result = said r; response = out }
 
+-- the refusal, or the response's length
 abbrev pub lengthOf : Result (List ℕ) → Result ℕ
 lengthOf (refused n) = refused n
 lengthOf (gave s) = gave (length s)
 
+-- what the function says and leaves, by the model's result and the output lent
 unfoldable pub ends : Result (List ℕ) → List ℕ → Ended
 ends r out = record { result = lengthOf r; response = outputOf r out }
 

@@ -29,6 +29,7 @@ abbrev pub said : Outcome → Result Answer
 said (Refused r) = refused (number r)
 said (Gave a) = gave a
 
+-- the same of the model's result
 abbrev pub sizes : Result Effect → Result Answer
 sizes (refused n) = refused n
 sizes (gave e) = gave (sizeOf (e .answer))

@@ -6,10 +6,11 @@ use lib.ListN.{length, take, drop}
 use lib.Dec.{leb}
 use Rattle.model.specs.Lists.{all, select, eqBytes}
 
--- a column's row at a place, and its first n rows
+-- a column's row at a place
 abbrev pub row : ℕ → List ℕ → List ℕ
 row i c = take 32 (drop (32 * i) c)
 
+-- its first n rows
 unfoldable pub rows : ℕ → List ℕ → List (List ℕ)
 rows zero c = []
 rows (suc n) c = take 32 c ∷ rows n (drop 32 c)

@@ -19,6 +19,7 @@ childPasses k c = childOk c (listed (fieldsOf k) (c .tag))
 abbrev pub runFrom : List ℕ → ℕ → List Tlv
 runFrom s from = Option·getD (tlvs (drop from s)) []
 
+-- as many of a field's values are placed
 abbrev pub maxValues : ℕ
 maxValues = 8
 

@@ -6,6 +6,7 @@ use Rattle.command.specs.declared.kinds.Kind.the-variants.{GetInfo, Regi
 use Rattle.command.specs.declared.kinds.Named.{Named}
 use Rattle.command.specs.declared.kinds.Named.the-variants.{Command, Unknown}
 
+-- the model's kind
 abbrev pub kindIs : Kind → model.Kind
 kindIs GetInfo = model.getInfo
 kindIs Register = model.register
@@ -13,6 +14,7 @@ kindIs Sign = model.sign
 kindIs Deregister = model.deregister
 kindIs OpenSettings = model.openSettings
 
+-- the model's kind, if the outer tag names a command
 abbrev pub namedAs : Named → Option model.Kind
 namedAs (Command k) = some (kindIs k)
 namedAs Unknown = none

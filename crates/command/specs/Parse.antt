@@ -16,10 +16,12 @@ pub record Placed (s : List ℕ) (f : model.Field) (p : Span) : Type 0 where
   pub inside : Inside s p
   pub value : part s p ≡ fieldIn f s
 
+-- the same of the key handles
 pub record HandlesPlaced (s : List ℕ) (ps : Spans) : Type 0 where
   pub inside : AllInside s ps
   pub values : parts s ps ≡ fieldsIn model.keyHandle s
 
+-- the same of every field
 pub record FieldsPlaced (s : List ℕ) (r : Fields) : Type 0 where
   pub app-id : Placed s model.appId (r .«app_id»)
   pub challenge-hash : Placed s model.challengeHash (r .«challenge_hash»)
@@ -45,6 +47,7 @@ noFields =
       handles = record { at = noSpan ∷ noSpan ∷ noSpan ∷ noSpan ∷ noSpan ∷ noSpan ∷ noSpan ∷ noSpan ∷ []; len = 0 };
     }
 
+-- what the reader gives for a command of this kind
 pub record Answers (k : model.Kind) (s : List ℕ) (r : Fields) : Type 0 where
   pub broken-is : r .broken ≡ broken k s
   pub if-broken : broken k s ≡ true → r ≡ noFields

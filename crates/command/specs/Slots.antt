@@ -21,9 +21,11 @@ commandFields =
     model.index ∷ model.appId ∷ model.challengeHash ∷ model.username ∷ model.attestationType ∷ model.transactionContent
     ∷ model.keyIdOrNone ∷ model.accessToken ∷ model.userVerifyToken ∷ model.keyHandle ∷ []
 
+-- how many slots there are
 abbrev pub slots : ℕ
 slots = 10
 
+-- the field of a slot
 abbrev pub slotField : ℕ → model.Field
 slotField slot = getD commandFields slot model.keyHandle
 
@@ -32,14 +34,16 @@ abbrev pub placeOf : ℕ → List model.Field → ℕ
 placeOf tag [] = 0
 placeOf tag (f ∷ fs) = cond (eqb (tagOf f) tag) 0 (suc (placeOf tag fs))
 
+-- the slot of the field with a tag; past the last for any other tag
 unfoldable pub slotOf : ℕ → ℕ
 slotOf tag = placeOf tag commandFields
 
--- how often a command must and may be given a field; never, if it does not list it
+-- how often a listed field must and may be given; never, if it is not listed
 abbrev pub timesIn : Option model.Listed → Times
 timesIn none = record { least = 0; most = 0 }
 timesIn (some l) = record { least = l .least; most = l .most }
 
+-- how often a command must and may be given a field
 unfoldable pub timesFor : model.Kind → model.Field → Times
 timesFor k f = timesIn (listed (fieldsOf k) (tagOf f))
 
@@ -49,17 +53,20 @@ pub record SlotIs (s : List ℕ) (vs : List (List ℕ)) (times : ℕ) (first : S
   pub inside : Inside s first
   pub value : part s first ≡ getD vs 0 []
 
+-- the same of the field of every slot
 pub record SlotsAre (s : List ℕ) (from : ℕ) (r : Slots) : Type 0 where
   pub each : (slot : ℕ) → slot < slots → SlotIs s (valuesOf (slotField slot) (runFrom s from)) (getD (r .times) slot 0) (getD (r .first) slot noSpan)
 
--- numbers of times that a command allows, for the fields from the first on
+-- given as often as it must and may be; a field that the command does not list is not counted
 abbrev pub timesAllowed : Times → ℕ → Bool
 timesAllowed t n = cond (eqb (t .most) 0) true (leb (t .least) n && leb n (t .most))
 
+-- these numbers of times are allowed, field by field
 abbrev pub allowedFrom : model.Kind → List model.Field → List ℕ → Bool
 allowedFrom k [] ns = true
 allowedFrom k (f ∷ fs) [] = timesAllowed (timesFor k f) 0 && allowedFrom k fs []
 allowedFrom k (f ∷ fs) (n ∷ ns) = timesAllowed (timesFor k f) n && allowedFrom k fs ns
 
+-- each field is given as often as the command allows
 unfoldable pub givenOk : model.Kind → List ℕ → Bool
 givenOk k ns = allowedFrom k commandFields ns

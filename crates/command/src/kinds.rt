@@ -8,6 +8,7 @@ ghost use Rattle.fields.specs.Fields.{named};
 ghost use Rattle.command.specs.Kinds.{kindIs, namedAs};
 ghost use Rattle.command.specs.Slots.{slots, slotField, slotOf, timesFor};
 
+// The five commands.
 pub enum Kind {
     GetInfo,
     Register,
@@ -22,6 +23,7 @@ pub enum Named {
     Unknown,
 }
 
+// Which command it is, by its outer tag; none with fewer than four bytes.
 pub fn kind_of(s: &[u8]) -> Named
     ensures { λ r. ⌜ namedAs r ≡ kindOf (now (s .entry)) ⌝ }
 {
@@ -60,6 +62,7 @@ pub const USER_VERIFY_TOKEN: usize = 8;
 
 pub const KEY_HANDLE: usize = 9;
 
+// How many there are.
 pub const SLOTS: usize = 10;
 
 // The field of a slot.
@@ -106,6 +109,7 @@ pub struct Times {
     pub most: u8,
 }
 
+// The four pairs that occur.
 const NEVER: Times = Times { least: 0, most: 0 };
 
 const OPTIONAL: Times = Times { least: 0, most: 1 };

@@ -28,7 +28,8 @@ fn handles_in(s: &[u8]) -> Spans
     Spans { at, len: v.times }
 }
 
-// The fields of a command: whether it breaks a rule and, if not, where each field's bytes stand in it.
+// The fields of a command: whether it breaks a rule and, if not, where each field's bytes stand in it. AppID and access token are for
+// whoever works out the mixed token.
 pub struct Fields {
     pub broken: bool,
     pub app_id: Span,
@@ -41,6 +42,7 @@ pub struct Fields {
     pub handles: Spans,
 }
 
+// The answer to a command that breaks a rule.
 fn no_fields() -> Fields
     ensures { λ r. ⌜ r ≡ noFields ⌝ }
 {

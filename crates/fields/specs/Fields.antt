@@ -83,6 +83,7 @@ allows Mode1 v = eqb (getD v 2 0) 0x01
 allows Mode2 v = eqb (getD v 2 0) 0x02
 allows (Among w) v = among v (map (le 2) (statusesIn w))
 
+-- a rule of these numbers that asks this
 abbrev pub ruleWith : ℕ → ℕ → ℕ → Allowed → Rule
 ruleWith t m n a = record { tag = t; least = m; most = n; allowed = a }
 
@@ -99,5 +100,6 @@ fieldIn f s (Tlv tag start end) = cond (eqb tag (tagOf f) && fits f (between s s
 fieldIn f s Bad = Missing
 fieldIn f s End = Missing
 
+-- the field at a place of a stretch
 unfoldable pub fieldAt : model.Field → List ℕ → ℕ → Found
 fieldAt f s at = fieldIn f s (headAt s at)

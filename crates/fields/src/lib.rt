@@ -31,36 +31,36 @@ pub enum Field {
     AccessToken,
     KeyHandle,
     KeyId,
-    KeyIdOrNone,
+    KeyIdOrNone, // KEYID in Deregister, which may be empty
     UserVerifyToken,
     TransactionContent,
     MixedToken,
-    Counter,
+    Counter, // COUNTERS of a stored record
     Aaid,
     Metadata,
     PublicKey,
     Nonce,
-    ContentHash,
-    NoContentHash,
+    ContentHash, // in SIGNED_DATA with content
+    NoContentHash, // without
     ApiVersion,
     ContentType,
     AssertionScheme,
-    FullType,
-    SurrogateType,
-    KrdInfo,
-    SignedInfo,
-    ContentInfo,
-    NoCounts,
-    NewCount,
+    FullType, // ATTESTATION_TYPE in GetInfo's response, BASIC_FULL
+    SurrogateType, // and BASIC_SURROGATE
+    KrdInfo, // ASSERTION_INFO of KRD
+    SignedInfo, // of SIGNED_DATA without content
+    ContentInfo, // and with content
+    NoCounts, // COUNTERS of KRD
+    NewCount, // COUNTERS of SIGNED_DATA
     Signature,
     Certificate,
-    Status(Statuses),
+    Status(Statuses), // STATUS_CODE
 }
 
 // Which statuses may stand at a place: OK beside other fields, or one of those that a command answers alone.
 pub enum Statuses {
-    Ok,
-    OfGetInfo,
+    Ok, // beside other fields
+    OfGetInfo, // alone, by command
     OfRegister,
     OfSign,
     OfDeregister,
@@ -69,19 +69,19 @@ pub enum Statuses {
 
 // What else is asked of a value than its length.
 pub enum Allowed {
-    Any,
-    Zero,
-    EmptyOrKeyId,
-    One,
-    TextPlain,
-    UafV1Tlv,
-    Full,
-    Surrogate,
-    ZeroCounts,
-    NotZero,
-    Mode1,
-    Mode2,
-    Among(Statuses),
+    Any, // nothing
+    Zero, // that byte
+    EmptyOrKeyId, // 0 or 32 bytes
+    One, // that byte
+    TextPlain, // those letters
+    UafV1Tlv, // those letters
+    Full, // that attestation type
+    Surrogate, // that attestation type
+    ZeroCounts, // eight zero bytes
+    NotZero, // a number above 0
+    Mode1, // the third byte is 1
+    Mode2, // the third byte is 2
+    Among(Statuses), // one of those
 }
 
 // A field's tag, the least and the greatest length of its value, and what else is asked of it.
@@ -92,6 +92,7 @@ pub struct Rule {
     pub allowed: Allowed,
 }
 
+// A value of any bytes, between two lengths.
 fn sized(tag: usize, least: usize, most: usize) -> Rule
     ensures { λ r. ⌜ r ≡ ruleWith tag least most Any ⌝ }
 {
@@ -212,6 +213,7 @@ fn is_not_zero(v: &[u8]) -> bool
     false
 }
 
+// Whether a value is what is asked, its length aside.
 fn is_allowed(a: Allowed, v: &[u8]) -> bool
     ensures { λ r. ⌜ r ≡ allows a (now (v .entry)) ⌝ }
 {

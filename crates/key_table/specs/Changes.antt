@@ -14,6 +14,7 @@ use Rattle.model.specs.Commands.{Change, remove, removeAll}
 abbrev pub removal : List ℕ → Change
 removal key = cond (empty key) removeAll (remove key)
 
+-- a record goes: it is the mixed token's and, unless the KeyID is empty, has the KeyID
 abbrev pub goes : List ℕ → List ℕ → model.Record → Bool
 goes m key r = hasMixed m r && (empty key || eqBytes (r .keyId) key)
 

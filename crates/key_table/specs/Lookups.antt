@@ -12,6 +12,7 @@ use Rattle.key_table.specs.declared.lookups.Rows.{Rows}
 abbrev pub passes : List ℕ → List (List ℕ) → List ℕ → List ℕ → Bool
 passes m handles owner key = eqBytes owner m && (empty handles || among key handles)
 
+-- the same of a record
 abbrev pub isChosen : List ℕ → List (List ℕ) → model.Record → Bool
 isChosen m handles r = passes m handles (r .mixed) (r .keyId)
 

@@ -8,6 +8,7 @@ use Rattle.columns.specs.Firsts.{firsts}
 use Rattle.key_table.specs.declared.records.Record.{Record}
 use Rattle.key_table.specs.declared.records.Table.{Table}
 
+-- the record of these fields
 abbrev pub entry : List ℕ → List ℕ → List ℕ → ℕ → model.Record
 entry k m v n = record { keyId = k; mixed = m; name = v; count = n }
 
@@ -27,6 +28,7 @@ spareRow = record { «key_id» = firsts 0 32 []; mixed = firsts 0 32 []; name = 
 abbrev pub rowOf : List ℕ → List ℕ → List ℕ → ℕ → Record
 rowOf k m v n = record { «key_id» = k; mixed = m; name = firsts 0 128 v; «name_len» = length v; count = n }
 
+-- what reading past the last record would give
 abbrev pub noRecord : model.Record
 noRecord = entry [] [] [] 0
 
@@ -34,10 +36,11 @@ noRecord = entry [] [] [] 0
 unfoldable pub viewTable : Table → model.Table
 viewTable t = map viewRecord (firsts noRow (t .len) (t .rows))
 
--- spare bytes are zero, in a row and in a table
+-- spare bytes are zero in a row
 abbrev pub TidyRow : Record → Type 0
 TidyRow r = r .name ≡ firsts 0 128 (firsts 0 (r .«name_len») (r .name))
 
+-- and in a table
 pub record Tidy (t : Table) : Type 0 where
   pub names : (i : ℕ) → i < t .len → TidyRow (getD (t .rows) i noRow)
   pub rest : drop (t .len) (t .rows) ≡ drop (t .len) (firsts spareRow 32 [])

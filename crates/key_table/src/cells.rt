@@ -14,6 +14,7 @@ pub enum Cell {
     Mixed,
 }
 
+// That field of a record.
 fn cell_of(r: Record, which: Cell) -> [u8; 32]
     ensures { λ c. ⌜ c ≡ cellOf which (viewRecord r) ⌝ }
 {
@@ -29,7 +30,8 @@ fn cell_of(r: Record, which: Cell) -> [u8; 32]
     }
 }
 
-// One field of each record, one after the other: what a test of every pair reads, so that the table is copied once.
+// One field of each record, one after the other: whoever looks at one field of every record reads this, so that no loop carries the
+// table. What stands after the last record's is open.
 pub fn column(t: Table, which: Cell) -> [u8; 1024]
     requires { ⌜ t .len ≤ 32 ⌝ }
     ensures { λ r. ⌜ rows (t .len) r ≡ map (cellOf which) (viewTable t) ⌝ }

@@ -59,7 +59,7 @@ fn is_given(keys: &[u8], i: usize, s: &[u8], handles: Spans) -> bool
     false
 }
 
-// The places of some rows, in their order.
+// The places of some rows, in their order. What stands past their number is open.
 pub struct Rows {
     pub at: [usize; 32],
     pub len: usize,

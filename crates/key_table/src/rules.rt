@@ -14,9 +14,10 @@ ghost use Rattle.model.specs.Tlv.{fits, username};
 ghost use Rattle.model.specs.Records.{recordOk, tableOk};
 ghost use Rattle.key_table.specs.Views.{viewRecord, viewTable};
 
-// "The table has at most 32 records, .. at most 8 with one mixed token".
+// "The table has at most 32 records".
 pub const MAX_RECORDS: usize = 32;
 
+// ".. at most 8 with one mixed token".
 pub const MAX_OWN: usize = 8;
 
 // Whether the first n bytes are a name.
@@ -64,7 +65,7 @@ fn records_ok(t: Table) -> bool
     true
 }
 
-// The record rules: at most 32 records, each in order, at most 8 with one mixed token, no KeyID twice.
+// The record rules: at most 32 records, each of which obeys its rules, at most 8 with one mixed token, no KeyID twice.
 pub fn table_ok(t: Table) -> bool
     ensures { λ r. ⌜ r ≡ tableOk (viewTable t) ⌝ }
 {

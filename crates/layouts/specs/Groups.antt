@@ -6,25 +6,29 @@ use Rattle.model.specs.Commands.{keyRegistrationData, signedData, nameRows}
 use Rattle.layouts.specs.declared.Group.{Group}
 use Rattle.layouts.specs.declared.Group.the-variants.{Krd, SignedData, SignedContent, Pair}
 
+-- the group, with nothing after it
 abbrev pub layoutOf : Group → Layout
 layoutOf Krd = keyRegistrationData end
 layoutOf SignedData = signedData false end
 layoutOf SignedContent = signedData true end
 layoutOf Pair = nameRows 1
 
--- the tag and the inside of a layout that is one group
+-- the tag of a layout that is one group
 abbrev tagIn : Layout → ℕ
 tagIn end = 0
 tagIn (field f l) = 0
 tagIn (group t inner l) = t
 
+-- and its inside
 abbrev insideIn : Layout → Layout
 insideIn end = end
 insideIn (field f l) = end
 insideIn (group t inner l) = inner
 
+-- a group's tag
 abbrev pub groupTag : Group → ℕ
 groupTag g = tagIn (layoutOf g)
 
+-- what a group holds
 abbrev pub groupInside : Group → Layout
 groupInside g = insideIn (layoutOf g)

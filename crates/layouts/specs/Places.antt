@@ -13,6 +13,7 @@ use Rattle.fields.specs.Fields.{fieldAt}
 use Rattle.fields.specs.declared.Found.{Found}
 use Rattle.fields.specs.declared.Found.the-variants.{At, Missing}
 
+-- one past the end, where nothing is found
 abbrev pub nowhere : List ℕ → ℕ
 nowhere s = length s + 1
 
@@ -20,28 +21,31 @@ nowhere s = length s + 1
 unfoldable pub readsAt : Layout → List ℕ → ℕ → Bool
 readsAt l s at = leb at (length s) && reads l (drop at s)
 
--- after a field
+-- after what was found
 abbrev pub pastFound : List ℕ → Found → ℕ
 pastFound s (At p) = p .end
 pastFound s Missing = nowhere s
 
+-- after a field
 unfoldable pub afterField : Field → List ℕ → ℕ → ℕ
 afterField f s at = pastFound s (fieldAt f s at)
 
--- the value of a TLV with this tag that ends with the stretch
+-- the value's place, if this is a TLV with this tag that ends with the stretch
 abbrev pub inHead : ℕ → List ℕ → Head → ℕ
 inHead t s (Tlv tag start end) = cond (eqb tag t && eqb end (length s)) start (nowhere s)
 inHead t s Bad = nowhere s
 inHead t s End = nowhere s
 
+-- in a group that ends with the stretch
 unfoldable pub inGroup : ℕ → List ℕ → ℕ → ℕ
 inGroup t s at = inHead t s (headAt s at)
 
--- after a TLV with this tag whose value a layout reads
+-- the place after it, if this is a TLV with this tag whose value a layout reads
 abbrev pub pastHead : ℕ → Layout → List ℕ → Head → ℕ
 pastHead t inner s (Tlv tag start end) = cond (eqb tag t && reads inner (between s start end)) end (nowhere s)
 pastHead t inner s Bad = nowhere s
 pastHead t inner s End = nowhere s
 
+-- after a group
 unfoldable pub afterGroup : ℕ → Layout → List ℕ → ℕ → ℕ
 afterGroup t inner s at = pastHead t inner s (headAt s at)

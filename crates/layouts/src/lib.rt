@@ -58,6 +58,7 @@ pub enum Group {
     Pair,
 }
 
+// A group's tag.
 fn group_tag(g: Group) -> usize
     ensures { λ r. ⌜ r ≡ groupTag g ⌝ }
 {

@@ -10,6 +10,7 @@ use Rattle.model.specs.Reader.{Part, holds, Stretch, stretch, isSigned}
 use Rattle.tlv.specs.Spans.{span}
 use Rattle.tlv.specs.declared.heads.Span.{Span}
 
+-- the part with this tag, place and length
 abbrev pub partAt : ℕ → ℕ → ℕ → Part
 partAt t at n = record { tag = t; place = at; size = n }
 
@@ -34,9 +35,10 @@ met s at = metPast 0 at (drop at s)
 abbrev pub fieldsMet : List ℕ → List Part
 fieldsMet s = select (λ p. not (holds (p .tag))) (met s 0)
 
--- the first signed structure
+-- a stretch of the model as a part
 abbrev pub spanOf : Stretch → Span
 spanOf p = span (p .place) (p .place + p .size)
 
+-- the first signed structure
 abbrev pub signedMet : List ℕ → Span
 signedMet s = spanOf (stretch (first (select (λ p. isSigned (p .tag)) (met s 0))))

@@ -23,6 +23,7 @@ signedBytes (gave r) s = take (r .signed .size) (drop (r .signed .place) s)
 abbrev pub column : (Part → ℕ) → List Part → List ℕ
 column f ps = firsts 0 17 (map f ps)
 
+-- the first 17 parts, column by column
 unfoldable pub partsOf : List Part → Parts
 partsOf ps =
     record {
@@ -32,6 +33,7 @@ partsOf ps =
       len = length (take 17 ps);
     }
 
+-- what the second call gives, by the model's result
 unfoldable pub readingOf : Result model.Reading → Reading
 readingOf (refused n) = record { refusal = n; tag = 0; status = 0; parts = partsOf [] }
 readingOf (gave r) = record { refusal = 0; tag = r .tag; status = r .status; parts = partsOf (r .fields) }

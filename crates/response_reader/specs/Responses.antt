@@ -17,10 +17,11 @@ use Rattle.response_reader.specs.declared.names.Keys.{Keys}
 unfoldable pub inAssertion : ℕ → ℕ → List ℕ → ℕ
 inAssertion response assertion s = inGroup assertion s (inGroup assertionTag s (afterField ok s (inGroup response s 0)))
 
--- the key handles among parts, and those that are met from a place on
+-- the key handles among parts
 abbrev pub handles : List Part → List Part
 handles ps = select (λ p. isHandle (p .tag)) (select (λ p. not (holds (p .tag))) ps)
 
+-- the values of those that are met from a place on
 unfoldable pub handlesFrom : List ℕ → ℕ → List (List ℕ)
 handlesFrom s at = map (cut s) (handles (met s at))
 

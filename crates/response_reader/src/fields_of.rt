@@ -76,6 +76,7 @@ pub struct Reading {
     pub parts: Parts,
 }
 
+// The answer to bytes that are no response.
 fn no_reading() -> Reading
     ensures { λ r. ⌜ r ≡ readingOf (refused 5) ⌝ }
 {

@@ -56,7 +56,7 @@ fn assertion_in(s: &[u8], response: usize, assertion: usize) -> usize
     enter(s, a3, assertion)
 }
 
-// What follows the draft of a registration: with full attestation a signature and a certificate, with surrogate a signature.
+// Whether with full attestation a signature and a certificate follow the draft.
 fn is_full(s: &[u8], at: usize) -> bool
     ensures { λ r. ⌜ r ≡ readsAt (group full (fields (signature ∷ certificate ∷ [])) end) (now (s .entry)) at ⌝ }
 {
@@ -66,6 +66,7 @@ fn is_full(s: &[u8], at: usize) -> bool
     end == s.len()
 }
 
+// Whether with surrogate attestation a signature follows it.
 fn is_surrogate(s: &[u8], at: usize) -> bool
     ensures { λ r. ⌜ r ≡ readsAt (group surrogate (fields (signature ∷ [])) end) (now (s .entry)) at ⌝ }
 {

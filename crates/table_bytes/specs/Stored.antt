@@ -31,10 +31,11 @@ pub record TableIs (o : Option model.Table) (r : Loaded) : Type 0 where
 unfoldable pub storedIn : List ℕ → Option model.Record
 storedIn v = cond (matches storedRecord (tlv pairTag v ∷ [])) (some (storedAs (tlv pairTag v))) none
 
--- the record of these parts of a value, and that they have the lengths of a record's fields
+-- the record of these parts of a value
 abbrev pub partsRecord : List ℕ → Span → Span → Span → Span → Option model.Record
 partsRecord v key mixed name count = some (entry (part v key) (part v mixed) (part v name) (numAt 4 v (count .start)))
 
+-- these parts of a value have the lengths of a record's fields
 pub record RowParts (v : List ℕ) (key mixed name count : Span) : Type 0 where
   pub key-inside : Inside v key
   pub key-size : key .end ≡ key .start + 32

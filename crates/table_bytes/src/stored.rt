@@ -35,6 +35,7 @@ struct Row {
     row: Record,
 }
 
+// No record: the row is spare.
 fn no_row() -> Row
     ensures { λ r. ⌜ RowIs none r ⌝ }
 {
@@ -80,12 +81,13 @@ fn read_row(v: &[u8]) -> Row
     row_of(v, key_id, mixed, name, count)
 }
 
-// A table, if there is one.
+// A table, if there is one. If there is none, the rows mean nothing: all that is known is that their spare bytes are zero.
 pub struct Loaded {
     pub ok: bool,
     pub table: Table,
 }
 
+// No table: no rows are in use.
 fn no_table() -> Loaded
     ensures { λ r. ⌜ TableIs none r ⌝ }
 {
@@ -143,7 +145,7 @@ pub fn read_table(s: &[u8]) -> Loaded
     }
 }
 
-// A TLV of an array: its length is its type's.
+// Writes a TLV of an array, whose length is its type's.
 pub fn put_tlv_key(out: &mut [u8], at: usize, tag: usize, v: &[u8; 32]) -> usize
     requires { ⌜ at + 36 ≤ length (now out) ⌝ }
     ensures { λ r. ⌜ Wrote (now (out .entry)) at (bytes (tlv tag (now (v .entry)) ∷ [])) 36 (now (out .exit)) r ⌝ }
@@ -151,6 +153,7 @@ pub fn put_tlv_key(out: &mut [u8], at: usize, tag: usize, v: &[u8; 32]) -> usize
     put_tlv(out, at, tag, v)
 }
 
+// The same of a name: the first n bytes of its array.
 pub fn put_tlv_name(out: &mut [u8], at: usize, tag: usize, v: &[u8; 128], n: usize) -> usize
     requires { ⌜ (n ≤ 128) × (at + (4 + n) ≤ length (now out)) ⌝ }
     ensures { λ r. ⌜ Wrote (now (out .entry)) at (bytes (tlv tag (take n (now (v .entry))) ∷ [])) (4 + n) (now (out .exit)) r ⌝ }

@@ -19,5 +19,6 @@ headAt s at =
 abbrev pub between : List ℕ → ℕ → ℕ → List ℕ
 between s start end = take (end - start) (drop start s)
 
+-- a part's bytes
 abbrev pub part : List ℕ → Span → List ℕ
 part s p = between s (p .start) (p .end)

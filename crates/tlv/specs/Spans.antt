@@ -6,9 +6,11 @@ use Rattle.tlv.specs.Heads.{part}
 use Rattle.tlv.specs.declared.heads.Span.{Span}
 use Rattle.tlv.specs.declared.heads.Spans.{Spans}
 
+-- the part from a place up to another
 abbrev pub span : ℕ → ℕ → Span
 span start end = record { start = start; end = end }
 
+-- an empty part at the front
 abbrev pub noSpan : Span
 noSpan = span 0 0
 

@@ -58,7 +58,8 @@ pub fn head_at(s: &[u8], at: usize) -> Head
     }
 }
 
-// The bits that mark a composite and a critical tag.
+// The bit that marks a composite tag.
 pub const COMPOSITE: usize = 0x1000;
 
+// And a critical one.
 pub const CRITICAL: usize = 0x2000;

@@ -1,4 +1,4 @@
-// Type-length-value bytes: little-endian numbers, headers and runs, writers. What each function gives is a definition of `model`.
+// Type-length-value bytes: little-endian numbers, headers, runs and the walk over one, writers. What each function gives is a definition of `model`.
 pub mod bytes;
 pub mod heads;
 pub mod numbers;

@@ -29,7 +29,7 @@ pub fn get32(s: &[u8], at: usize) -> usize
     get16(s, at) + 65536 * get16(s, at + 2)
 }
 
-// The two lowest bytes of a length or a tag, the lowest first: the one place that splits a number.
+// The two lowest bytes of a length or a tag, the lowest first: the one place that splits a number into bytes.
 fn split(n: usize) -> [u8; 2]
     ensures { λ r. ⌜ r ≡ le 2 n ⌝ }
 {
@@ -56,7 +56,7 @@ pub fn put16(out: &mut [u8], at: usize, n: usize) -> usize
     at + 2
 }
 
-// Writes a number in four bytes.
+// Writes a number in four bytes, its low half first.
 pub fn put32(out: &mut [u8], at: usize, n: usize) -> usize
     requires { ⌜ at + 4 ≤ length (now out) ⌝ }
     ensures { λ r. ⌜ Wrote (now (out .entry)) at (le 4 n) 4 (now (out .exit)) r ⌝ }

@@ -13,9 +13,11 @@ pub record ReturnedCompletion : Type 0 where
   pub responseLength : ℕ
   pub response : List ℕ
 
+-- these three
 abbrev pub wrote : ℕ → ℕ → List ℕ → ReturnedCompletion
 wrote c n s = record { code = c; responseLength = n; response = s }
 
+-- from a completion with this result that was lent these
 unfoldable pub completedAs : Result (List ℕ) → ReturnedCompletion → ReturnedCompletion
 completedAs (refused n) b = wrote n (b .responseLength) (b .response)
 completedAs (gave s) b = wrote 0 (length s) (outputOf (gave s) (b .response))
@@ -26,9 +28,11 @@ pub record ReturnedPart : Type 0 where
   pub place : ℕ
   pub size : ℕ
 
+-- these three
 abbrev pub points : ℕ → ℕ → ℕ → ReturnedPart
 points c p n = record { code = c; place = p; size = n }
 
+-- from a first call with this result that was lent these
 unfoldable pub pointed : Result Reading → ReturnedPart → ReturnedPart
 pointed (refused n) b = points n (b .place) (b .size)
 pointed (gave r) b = points 0 (r .signed .place) (r .signed .size)
@@ -43,9 +47,11 @@ pub record ReturnedFields : Type 0 where
   pub places : List ℕ
   pub lengths : List ℕ
 
+-- these seven
 abbrev pub lists : (code tag status count : ℕ) → (tags places lengths : List ℕ) → ReturnedFields
 lists c t u n ts ps ls = record { code = c; tag = t; status = u; count = n; tags = ts; places = ps; lengths = ls }
 
+-- from a second call with this result that was lent these
 unfoldable pub listed : Result Reading → ReturnedFields → ReturnedFields
 listed (refused n) b = lists n (b .tag) (b .status) (b .count) (b .tags) (b .places) (b .lengths)
 listed (gave r) b =

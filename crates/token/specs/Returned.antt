@@ -18,6 +18,7 @@ pub record Returned : Type 0 where
   pub response : List ℕ
   pub table : List ℕ
 
+-- these six
 abbrev pub gets : (code answer responseLength tableLength : ℕ) → (response table : List ℕ) → Returned
 gets c a n m s t = record { code = c; answer = a; responseLength = n; tableLength = m; response = s; table = t }
 
@@ -26,11 +27,12 @@ abbrev pub answerNumber : Answer → ℕ
 answerNumber (response s) = 0
 answerNumber (draft s) = 1
 
--- what the code says of what it wrote
+-- what the code says of what it wrote: which of the two
 abbrev pub toldKind : Written → ℕ
 toldKind (Response n) = 0
 toldKind (Draft n) = 1
 
+-- and its length
 abbrev pub toldLength : Written → ℕ
 toldLength (Response n) = n
 toldLength (Draft n) = n
@@ -42,5 +44,6 @@ returned (gave e) b =
     let o = outputs (gave e) (record { response = b .response; table = some (b .table) }) in
     gets 0 (answerNumber (e .answer)) (length (bytesOf (e .answer))) (length (encode (e .left))) (o .response) (Option·getD (o .table) [])
 
+-- the lent numbers as the code holds them
 abbrev pub numbersOf : (version signatureAlgorithm keyAlgorithm verdict display : ℕ) → Numbers
 numbersOf v a k u d = record { version = v; «signature_algorithm» = a; «key_algorithm» = k; verdict = u; display = d }
