@@ -9,6 +9,7 @@ use fields::rule_of;
 use tlv::heads::COMPOSITE;
 use tlv::heads::CRITICAL;
 use tlv::heads::Head;
+use tlv::heads::NO_SPAN;
 use tlv::heads::Span;
 use tlv::reader::well_formed;
 use tlv::walk::header;
@@ -86,8 +87,7 @@ pub fn values_of(s: &[u8], from: usize, f: Field) -> Values
     ensures { λ r. ⌜ ValuesAre (now (s .entry)) from (named f) r ⌝ }
 {
     let rule = rule_of(f);
-    let none = Span { start: 0, end: 0 };
-    let mut found = [none; 8];
+    let mut found = [NO_SPAN; 8];
     let mut times = 0;
     let mut at = from;
     loop {
@@ -119,8 +119,7 @@ pub fn gather(s: &[u8], from: usize) -> Slots
     requires { ⌜ (from ≤ length (now s)) × (given (tlvs (drop from (now s))) ≡ true) ⌝ }
     ensures { λ r. ⌜ SlotsAre (now (s .entry)) from r ⌝ }
 {
-    let none = Span { start: 0, end: 0 };
-    let mut first = [none; SLOTS];
+    let mut first = [NO_SPAN; SLOTS];
     let mut times = [0usize; SLOTS];
     let mut at = from;
     loop {

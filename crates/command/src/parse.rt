@@ -6,6 +6,7 @@ use crate::kinds;
 use crate::kinds::Kind;
 use fields::Field;
 use fields::MAX_COMMAND;
+use tlv::heads::NO_SPAN;
 use tlv::heads::Span;
 use tlv::heads::Spans;
 use tlv::reader::is_whole;
@@ -46,18 +47,17 @@ pub struct Fields {
 fn no_fields() -> Fields
     ensures { λ r. ⌜ r ≡ noFields ⌝ }
 {
-    let none = Span { start: 0, end: 0 };
     Fields {
         broken: true,
-        app_id: none,
-        challenge_hash: none,
-        username: none,
-        attestation_type: none,
-        access_token: none,
-        key_id: none,
-        transaction_content: none,
+        app_id: NO_SPAN,
+        challenge_hash: NO_SPAN,
+        username: NO_SPAN,
+        attestation_type: NO_SPAN,
+        access_token: NO_SPAN,
+        key_id: NO_SPAN,
+        transaction_content: NO_SPAN,
         handles: Spans {
-            at: [none; 8],
+            at: [NO_SPAN; 8],
             len: 0,
         },
     }

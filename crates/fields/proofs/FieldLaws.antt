@@ -11,6 +11,7 @@ use lib.Dec.{eqb}
 use borrow.Author.Tests.{le-leb, lt-leb, eq-eqb, ne-eqb, eqb-true}
 use Rattle.model.specs.Tlv as model
 use Rattle.model.specs.Tlv.{Tlv, tlv, tlvs, isRun, ruleOf, tagOf, fits}
+use Rattle.model.specs.Layouts as layouts
 use Rattle.model.specs.Layouts.{Layout, field, matches}
 use Rattle.model.proofs.Basics.{and-left, and-right}
 use Rattle.model.proofs.LayoutLaws.{fits-least, fits-most}
@@ -82,6 +83,12 @@ matches-first : (f : model.Field) (l : Layout) (c : Tlv) (o : Option (List Tlv))
 unfolding matches
 matches-first f l c none = sym (and-false (eqb (c .tag) (tagOf f) && fits f (c .value)))
 matches-first f l c (some ts) = refl
+
+-- nothing more against a run's first TLV
+pub end-first : (c : Tlv) (o : Option (List Tlv)) → isRun (matches layouts.end) (Option·map (λ ts. c ∷ ts) o) ≡ false
+unfolding matches
+end-first c none = refl
+end-first c (some ts) = refl
 
 module _ (f : model.Field) (s : List ℕ) (at : ℕ) where
   in-tlv : (tag start end : ℕ) (p : Span) → IsTlv s at tag start end → (b : Bool)

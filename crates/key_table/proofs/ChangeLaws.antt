@@ -6,7 +6,7 @@ use mathlib.Core.List.{List, [], _∷_, _++_, map, append-nil}
 use Prim.Native.Nat.{ℕ, zero, suc, _+_, _≤_, _<_}
 use native.Mathlib.Numerals.{add-one}
 use native.Mathlib.Omega.{arith}
-use lib.ListN.{length, getD, take, drop, set, length-set}
+use lib.ListN.{length, getD, take, drop, set, length-map, length-set, List·getD-map}
 use lib.Seq.{take-all, take-set-lt, take-set-le}
 use borrow.Author.Tests.{not-true}
 use Rattle.model.specs.Lists.{select, eqBytes, among, distinct}
@@ -14,6 +14,7 @@ use Rattle.model.specs.Records as model
 use Rattle.model.specs.Records.{keyIds, hasMixed}
 use Rattle.model.specs.Commands.{apply, add, setCount, isKey, withCount}
 use Rattle.model.proofs.Basics.{split, clash, and-left, and-right, or-left, or-right, eqBytes-eq, eqBytes-not, select-append, select-same}
+use Rattle.model.proofs.Rules.{among-at}
 use Rattle.key_table.specs.Views.{viewRecord, viewTable, noRow, noRecord, rowOf, spareRow, TidyRow}
 use Rattle.key_table.specs.Changes.{goes, removal, Left}
 use Rattle.key_table.specs.declared.records.Record.{Record}
@@ -177,13 +178,6 @@ first-only : (r : model.Record) (t : model.Table) → distinct (keyIds (r ∷ t)
 first-only r t d = not-true _ (and-left (not (among (r .keyId) (keyIds t))) _ d)
 
 module _ (m k : List ℕ) (n : ℕ) where
-  among-at : (t : model.Table) (i : ℕ) → i < length t → eqBytes (getD t i noRecord .keyId) k ≡ true → among k (keyIds t) ≡ true
-  among-at [] i h e = absurd (omega arith)
-  among-at (r ∷ t) zero h e = rw e
-  among-at (r ∷ t) (suc i) h e =
-      let ih : among k (keyIds t) ≡ true = among-at t i (omega arith) e in
-      split (eqBytes (r .keyId) k) (λ p. rw p) (λ p. rw p ih)
-
   -- a record with another KeyID keeps its count
   other : (r : model.Record) → eqBytes (r .keyId) k ≡ false → isKey m k r ≡ false
   other r e = split (hasMixed m r) (λ p. rw (p, e)) (λ p. rw p)
@@ -204,7 +198,9 @@ module _ (m k : List ℕ) (n : ℕ) where
       let q : r .keyId ≡ k = eqBytes-eq (r .keyId) k (and-right (hasMixed m r) _ e) in
       rw e (ap (λ (l : model.Table). withCount r n ∷ l) (sym (none-set t (rw q at (first-only r t d)))))
   set-is-apply (r ∷ t) (suc i) d h e =
-      let b : among k (keyIds t) ≡ true = among-at t i (omega arith) (and-right (hasMixed m (getD t i noRecord)) _ e) in
+      let q : getD t i noRecord .keyId ≡ k = eqBytes-eq _ k (and-right (hasMixed m (getD t i noRecord)) _ e) in
+      let b : among k (keyIds t) ≡ true =
+      among-at [] k (keyIds t) i (rw length-map (omega arith)) (List·getD-map (λ r. r .keyId) t i noRecord ∙ q) in
       let p : isKey m k r ≡ false = other r (eqBytes-not (r .keyId) k (λ q. clash b (rw q at (first-only r t d)))) in
       rw p (ap (λ (l : model.Table). r ∷ l)
       (set-is-apply t i (and-right (not (among (r .keyId) (keyIds t))) _ d) (omega arith) e))

@@ -20,7 +20,7 @@ use Rattle.tlv.proofs.HeadLaws.{IsTlv, tlv-is, bad-is, end-is, run-end, run-bad
 use Rattle.fields.specs.Fields.{fieldIn, fieldAt}
 use Rattle.fields.specs.declared.Found.{Found as FieldFound}
 use Rattle.fields.specs.declared.Found.the-variants.{At, Missing}
-use Rattle.fields.proofs.FieldLaws.{field-is, field-not, field-step}
+use Rattle.fields.proofs.FieldLaws.{end-first, field-is, field-not, field-step}
 use Rattle.layouts.specs.Places.{nowhere, readsAt, pastFound, afterField, inHead, inGroup, pastHead, afterGroup}
 
 -- ---- the next place, by what stands at a place
@@ -84,12 +84,6 @@ matches-group : (t : ℕ) (inner l : Layout) (c : Tlv) (o : Option (List Tlv))
 unfolding matches reads
 matches-group t inner l c none = sym (and-false (eqb (c .tag) t && reads inner (c .value)))
 matches-group t inner l c (some ts) = refl
-
--- nothing more against a run's first TLV
-end-first : (c : Tlv) (o : Option (List Tlv)) → isRun (matches end) (Option·map (λ ts. c ∷ ts) o) ≡ false
-unfolding matches
-end-first c none = refl
-end-first c (some ts) = refl
 
 end-head : (s : List ℕ) (at : ℕ) (h : Head) → headAt s at ≡ h → readsAt end s at ≡ eqb at (length s)
 unfolding matches readsAt reads

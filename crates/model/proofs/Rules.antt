@@ -114,7 +114,7 @@ record-ok r h =
 -- ---- no KeyID twice
 
 module _ (d : List ℕ) where
-  among-at : (x : List ℕ) (xs : List (List ℕ)) (i : ℕ) → i < length xs → getD xs i d ≡ x → among x xs ≡ true
+  pub among-at : (x : List ℕ) (xs : List (List ℕ)) (i : ℕ) → i < length xs → getD xs i d ≡ x → among x xs ≡ true
   among-at x [] i h e = absurd (omega arith)
   among-at x (y ∷ xs) zero h e = rw (eqBytes-same e)
   among-at x (y ∷ xs) (suc i) h e =

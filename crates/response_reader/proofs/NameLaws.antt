@@ -18,6 +18,7 @@ use Rattle.model.specs.Reader.{Part, holds, partsAt, fieldParts, listedKeys, li
 use Rattle.model.proofs.Basics.{split, and-left, both, select-append}
 use Rattle.model.proofs.LayoutLaws.{fits-least, fits-most}
 use Rattle.model.proofs.PartLaws.{honest}
+use Rattle.model.proofs.ResponseWitness.{rows-plain}
 use Rattle.tlv.specs.Heads.{between}
 use Rattle.tlv.specs.Writing.{splice, Wrote}
 use Rattle.tlv.proofs.HeadLaws.{IsTlv, head-end, length-part}
@@ -231,10 +232,6 @@ any-run p n a (suc k) h f =
     let ih = any-run p n (suc a) k (omega arith) (λ m l u. f m (omega arith) (omega arith)) in
     rw (f a (omega arith) (omega arith), ih) (at-least a n)
 
-honest-rows : (n : ℕ) → honest 4 (nameRows n) ≡ true
-honest-rows zero = refl
-honest-rows (suc n) = honest-rows n
-
 -- the pairs start at b
 module _ (s : List ℕ) {a b : ℕ} (ea : a ≡ inGroup (responseTag sign) s 0) (eb : b ≡ afterField ok s a) where
   list-reads : (n : ℕ) → reads (nameList n) s ≡ readsAt (nameRows n) s b
@@ -247,7 +244,7 @@ module _ (s : List ℕ) {a b : ℕ} (ea : a ≡ inGroup (responseTag sign) s 0) 
       let h : b ≤ length s = leb-true _ _ (and-left (leb b (length s)) _ (sym (list-reads n) ∙ e)) in
       let j = field-before h ok eb in
       let i = in-before (omega (arith, j)) (responseTag sign) ea in
-      rw (parts-met (nameList n) s (both (honest-rows n) refl) e, met-tlv i, met-tlv j)
+      rw (parts-met (nameList n) s (both (rows-plain n .0) refl) e, met-tlv i, met-tlv j)
 
   module _ {r : Keys} (k : KeysAre s b r) where
     list-is : (m : ℕ) → 2 ≤ m → m < 9 → reads (nameList m) s ≡ eqb m (r .len)

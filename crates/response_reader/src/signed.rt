@@ -3,6 +3,7 @@ use crate::shapes::is_response;
 use fields::tags;
 use tlv::heads::COMPOSITE;
 use tlv::heads::Head;
+use tlv::heads::NO_SPAN;
 use tlv::heads::Span;
 use tlv::heads::part_of;
 use tlv::walk::header;
@@ -39,8 +40,8 @@ pub fn signed_in(s: &[u8]) -> Span
     loop {
         let h = header(s, at);
         match h {
-            Head::End => return Span { start: 0, end: 0 },
-            Head::Bad => return Span { start: 0, end: 0 },
+            Head::End => return NO_SPAN,
+            Head::Bad => return NO_SPAN,
             Head::Tlv { tag, start, end } => {
                 if is_signed_structure(tag) {
                     return Span { start: at, end };

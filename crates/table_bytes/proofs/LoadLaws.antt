@@ -23,7 +23,7 @@ use Rattle.tlv.proofs.NumberLaws.{num-between}
 use Rattle.tlv.proofs.HeadLaws.{IsTlv, run-end, run-bad, run-tlv, length-part}
 use Rattle.fields.specs.Fields.{fieldAt}
 use Rattle.fields.specs.declared.Found.the-variants.{Missing}
-use Rattle.fields.proofs.FieldLaws.{IsField, field-not, field-step, field-least, field-most}
+use Rattle.fields.proofs.FieldLaws.{IsField, end-first, field-not, field-step, field-least, field-most}
 use Rattle.columns.specs.Firsts.{firsts}
 use Rattle.columns.proofs.FirstLaws.{length-firsts}
 use Rattle.key_table.specs.Views.{viewRecord, viewTable, rowOf, spareRow, TidyRow, Tidy}
@@ -77,18 +77,13 @@ module _ {v : List ℕ} {f : Field} {l : Layout} {at : ℕ} (u : Unread v (field
   unread-missing e = no-record v (u .same ∙ field-not f v at l e)
 
 -- bytes that are left where none should be
-not-end : (c : Tlv) (o : Option (List Tlv)) → isRun (matches end) (Option·map (λ ts. c ∷ ts) o) ≡ false
-unfolding matches
-not-end c none = refl
-not-end c (some ts) = refl
-
 not-empty : (s : List ℕ) → 0 < length s → isRun (matches end) (tlvs s) ≡ false
 unfolding tlvsPast
 not-empty [] h = absurd (omega arith)
 not-empty (a ∷ []) h = refl
 not-empty (a ∷ b ∷ []) h = refl
 not-empty (a ∷ b ∷ c ∷ []) h = refl
-not-empty (a ∷ b ∷ c ∷ d ∷ s) h = not-end _ (tlvsPast (num (c ∷ d ∷ [])) s)
+not-empty (a ∷ b ∷ c ∷ d ∷ s) h = end-first _ (tlvsPast (num (c ∷ d ∷ [])) s)
 
 pub unread-more : {v : List ℕ} {at : ℕ} → Unread v end at → at ≤ length v → (at ≡ length v → ⊥) → storedIn v ≡ none
 unread-more {v} {at} u h k = no-record v (u .same ∙ not-empty (drop at v) (simp length-drop (omega arith)))

@@ -9,6 +9,9 @@ pub struct Span {
     pub end: usize,
 }
 
+// An empty part at the front.
+pub const NO_SPAN: Span = Span { start: 0, end: 0 };
+
 // At most eight of them.
 pub struct Spans {
     pub at: [Span; 8],

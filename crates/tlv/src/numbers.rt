@@ -7,7 +7,7 @@ ghost use Rattle.tlv.specs.Numbers.{NumberAt};
 ghost use Rattle.tlv.specs.Writing.{Wrote};
 
 // A byte as a place or a length.
-fn wide(x: u8) -> usize
+pub fn wide(x: u8) -> usize
     ensures { λ r. ⌜ (r ≡ x) × (r < 256) ⌝ }
 {
     x as usize
