@@ -1,2 +1,2 @@
 -- The laws of a call's code.
-pub mod RunLaws
+pub mod CallLaws

@@ -2,7 +2,7 @@
 -- field stands.
 pub mod KindLaws
 pub mod TimesLaws
-pub mod RunLaws
+pub mod ChildLaws
 pub mod ValueLaws
 pub mod SlotLaws
 pub mod ParseLaws

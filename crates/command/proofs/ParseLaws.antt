@@ -14,13 +14,13 @@ use Rattle.model.specs.Lists.{all, given}
 use Rattle.model.specs.Tlv.{Tlv, tlvs, isRun, Field, keyHandle, tagOf, maxCommand, critical, Kind, getInfo, register, sign, deregister, openSettings, fieldsOf, upTo, listed, childOk, valuesOf, timesOk, childrenOk, children, broken, fieldsIn, fieldIn, fills}
 use Rattle.model.proofs.Basics.{split, clash, and-left, and-right}
 use Rattle.model.proofs.Fields.{unbroken, given-times}
-use Rattle.tlv.specs.Spans.{parts, noSpan}
+use Rattle.tlv.specs.Spans.{partsIn, noSpan}
 use Rattle.tlv.specs.declared.heads.Span.{Span}
 use Rattle.tlv.specs.declared.heads.Spans.{Spans}
 use Rattle.tlv.proofs.HeadLaws.{fills-short}
 use Rattle.command.specs.Children.{childPasses, runFrom, maxValues, ValuesAre}
 use Rattle.command.specs.Slots.{slots, slotField, SlotsAre, givenOk}
-use Rattle.command.specs.Parse.{Placed, HandlesPlaced, noFields, Answers}
+use Rattle.command.specs.Parse.{Placed, HandlesPlaced, noFields, FieldsRead}
 use Rattle.command.specs.declared.children.Slots.{Slots}
 use Rattle.command.specs.declared.children.Values.{Values}
 use Rattle.command.specs.declared.parse.Fields.{Fields}
@@ -141,7 +141,7 @@ placed-at s r g a slot h =
 -- all key handles
 pub handles-placed : (s : List ℕ) (v : Values) → given (children s) ≡ true → length (fieldsIn keyHandle s) ≤ maxValues
     → ValuesAre s 4 keyHandle v → HandlesPlaced s (record { at = v .at; len = v .times })
-unfolding parts
+unfolding partsIn
 handles-placed s v g h a =
     let are : fieldsIn keyHandle s ≡ valuesOf keyHandle (runFrom s 4) = fields-in s g keyHandle in
     let few : length (valuesOf keyHandle (runFrom s 4)) ≤ maxValues = rw are at h in
@@ -152,8 +152,8 @@ handles-placed s v g h a =
 
 -- ---- the whole answer
 
-pub answers-broken : {k : Kind} {s : List ℕ} {r : Fields} → broken k s ≡ true → r ≡ noFields → Answers k s r
-answers-broken b e = record { broken-is = rw e (sym b); if-broken = λ h. e; unless-broken = λ h. clash b h }
+pub read-broken : {k : Kind} {s : List ℕ} {r : Fields} → broken k s ≡ true → r ≡ noFields → FieldsRead k s r
+read-broken b e = record { broken-is = rw e (sym b); if-broken = λ h. e; unless-broken = λ h. clash b h }
 
 -- the fields that the code picks
 abbrev pub picked : Slots → Spans → Fields
@@ -171,9 +171,9 @@ picked r handles =
       handles = handles;
     }
 
-pub answers-picked : {k : Kind} {s : List ℕ} {r : Slots} {ps : Spans} → broken k s ≡ false → SlotsAre s 4 r → HandlesPlaced s ps
-    → Answers k s (picked r ps)
-answers-picked {k} {s} {r} b a h =
+pub read-picked : {k : Kind} {s : List ℕ} {r : Slots} {ps : Spans} → broken k s ≡ false → SlotsAre s 4 r → HandlesPlaced s ps
+    → FieldsRead k s (picked r ps)
+read-picked {k} {s} {r} b a h =
     let at = placed-at s r (unbroken-given k s b) a in
     record {
       broken-is = sym b;

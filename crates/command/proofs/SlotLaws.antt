@@ -20,7 +20,7 @@ use Rattle.tlv.proofs.HeadLaws.{IsTlv}
 use Rattle.command.specs.Children.{runFrom}
 use Rattle.command.specs.Slots.{slots, slotField, slotOf, SlotIs, SlotsAre}
 use Rattle.command.proofs.KindLaws.{slot-tag}
-use Rattle.command.proofs.RunLaws.{RunAt, valuesWith, run-empty, run-next, values-same, values-other}
+use Rattle.command.proofs.ChildLaws.{RunAt, valuesWith, run-empty, run-next, values-same, values-other}
 
 -- ---- the slots
 

@@ -17,7 +17,7 @@ use Rattle.tlv.specs.declared.heads.Span.{Span}
 use Rattle.tlv.specs.declared.heads.Head.the-variants.{End}
 use Rattle.tlv.proofs.HeadLaws.{IsTlv}
 use Rattle.command.specs.Children.{runFrom, maxValues, ValuesAre}
-use Rattle.command.proofs.RunLaws.{RunAt, valuesWith, run-empty, run-next, values-same, values-other}
+use Rattle.command.proofs.ChildLaws.{RunAt, valuesWith, run-empty, run-next, values-same, values-other}
 
 -- up to a place, a tag was met so many times, and the first eight of its values are found
 pub record Gathered (s : List ℕ) (from wanted : ℕ) (found : List Span) (times at : ℕ) : Type 0 where

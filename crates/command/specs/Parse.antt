@@ -6,7 +6,7 @@ use mathlib.Core.List.{List, [], _∷_}
 use Rattle.model.specs.Tlv as model
 use Rattle.model.specs.Tlv.{broken, fieldsIn, fieldIn}
 use Rattle.tlv.specs.Heads.{part}
-use Rattle.tlv.specs.Spans.{noSpan, parts, Inside, AllInside}
+use Rattle.tlv.specs.Spans.{noSpan, partsIn, Inside, AllInside}
 use Rattle.tlv.specs.declared.heads.Span.{Span}
 use Rattle.tlv.specs.declared.heads.Spans.{Spans}
 use Rattle.command.specs.declared.parse.Fields.{Fields}
@@ -19,7 +19,7 @@ pub record Placed (s : List ℕ) (f : model.Field) (p : Span) : Type 0 where
 -- the same of the key handles
 pub record HandlesPlaced (s : List ℕ) (ps : Spans) : Type 0 where
   pub inside : AllInside s ps
-  pub values : parts s ps ≡ fieldsIn model.keyHandle s
+  pub values : partsIn s ps ≡ fieldsIn model.keyHandle s
 
 -- the same of every field
 pub record FieldsPlaced (s : List ℕ) (r : Fields) : Type 0 where
@@ -48,7 +48,7 @@ noFields =
     }
 
 -- what the reader gives for a command of this kind
-pub record Answers (k : model.Kind) (s : List ℕ) (r : Fields) : Type 0 where
+pub record FieldsRead (k : model.Kind) (s : List ℕ) (r : Fields) : Type 0 where
   pub broken-is : r .broken ≡ broken k s
   pub if-broken : broken k s ≡ true → r ≡ noFields
   pub unless-broken : broken k s ≡ false → FieldsPlaced s r

@@ -17,7 +17,7 @@ ghost use lib.ListN.{length};
 ghost use Rattle.model.specs.Lists.{given};
 ghost use Rattle.model.specs.Tlv.{keyHandle, children, fieldsIn};
 ghost use Rattle.command.specs.Kinds.{kindIs};
-ghost use Rattle.command.specs.Parse.{HandlesPlaced, noFields, Answers};
+ghost use Rattle.command.specs.Parse.{HandlesPlaced, noFields, FieldsRead};
 
 // Where the key handles stand.
 fn handles_in(s: &[u8]) -> Spans
@@ -65,7 +65,7 @@ fn no_fields() -> Fields
 
 // Reads a command of this kind. Its child run, which starts after the four header bytes, is passed on as a part of it.
 pub fn fields_of(s: &[u8], kind: Kind) -> Fields
-    ensures { λ r. ⌜ Answers (kindIs kind) (now (s .entry)) r ⌝ }
+    ensures { λ r. ⌜ FieldsRead (kindIs kind) (now (s .entry)) r ⌝ }
 {
     if MAX_COMMAND < s.len() {
         return no_fields();

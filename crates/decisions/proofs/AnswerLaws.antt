@@ -22,7 +22,7 @@ use Rattle.tlv.specs.Spans.{Inside}
 use Rattle.tlv.specs.Writing.{Wrote}
 use Rattle.tlv.proofs.WriteLaws.{front}
 use Rattle.tlv.specs.declared.heads.Span.{Span}
-use Rattle.command.specs.Parse.{Placed, FieldsPlaced, Answers}
+use Rattle.command.specs.Parse.{Placed, FieldsPlaced, FieldsRead}
 use Rattle.command.specs.declared.parse.Fields.{Fields}
 use Rattle.key_table.specs.Views.{viewTable}
 use Rattle.key_table.specs.Changes.{removal}
@@ -99,7 +99,7 @@ placed-short k f {s} b e p = rw (p .value) (fits-most f (fieldIn f s) (field-fit
 
 -- ---- GetInfo and open settings
 
-module _ {s out out′ : List ℕ} {f : Fields} (l : Lent) (a : Answers getInfo s f) where
+module _ {s out out′ : List ℕ} {f : Fields} (l : Lent) (a : FieldsRead getInfo s f) where
   -- a rule is broken, or none is
   pub info-broken : {r : Decision} → f .broken ≡ true → StatusAlone getInfo 0x08 Keep out out′ r
       → Keeps (decideGetInfo s l) out out′ r
@@ -112,7 +112,7 @@ module _ {s out out′ : List ℕ} {f : Fields} (l : Lent) (a : Answers getInfo 
   info-given b p = rw (← a .broken-is, b) (record { answered = wrote-response p; change = refl; keeps = refl })
 
 -- never open: the status tells whether a rule is broken
-pub settings-closed : {s out out′ : List ℕ} {f : Fields} {r : Decision} → Answers openSettings s f
+pub settings-closed : {s out out′ : List ℕ} {f : Fields} {r : Decision} → FieldsRead openSettings s f
     → StatusAlone openSettings (cond (f .broken) 0x08 0x06) Keep out out′ r → Keeps (decideOpenSettings s) out out′ r
 unfolding decideOpenSettings judge
 settings-closed {f = f} a p = status-keeps p (rw (← a .broken-is) (split (f .broken) (λ e. rw e) (λ e. rw e)))
@@ -156,7 +156,7 @@ register-draft s a n m key public = simp append-assoc
 
 -- the draft was written, and the change adds the name
 pub registered : (s a : List ℕ) (n : Numbers) (m key public c : List ℕ) (t : Table) (taken : Bool) {f : Fields} {j : Judged}
-    {out out′ : List ℕ} {i r : ℕ} → Answers register s f
+    {out out′ : List ℕ} {i r : ℕ} → FieldsRead register s f
     → j ≡ judge (registerList s n m key (own m (viewTable t)) taken (leb maxRecords (length (viewTable t)))) Fails Passes → j ≡ Passes
     → length m ≡ 32 → length key ≡ 32 → c ≡ part s (f .«challenge_hash») → Wrote out 0 (krd a n c key public) i out′ r
     → Decided s key m t
@@ -192,7 +192,7 @@ module _ (s : List ℕ) (mine : records.Table) {j : Judged} (e : j ≡ judge (de
   deregister-fails {i} f = judge-fails (deregisterChecks s mine) (only deregister keep) _ i (sym e ∙ f)
 
   -- what is removed is told by the command's KeyID
-  pub deregister-passes : {f : Fields} → Answers deregister s f → j ≡ Passes
+  pub deregister-passes : {f : Fields} → FieldsRead deregister s f → j ≡ Passes
       → (Inside s (f .«key_id»)) × (decideDeregister s mine ≡ only deregister (removal (part s (f .«key_id»))) 0x00)
   unfolding decideDeregister
   deregister-passes {f} a o =

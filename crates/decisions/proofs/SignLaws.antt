@@ -21,11 +21,11 @@ use Rattle.model.proofs.Basics.{and-left, first-passes, length-select}
 use Rattle.model.proofs.Rules.{obeys-rules}
 use Rattle.model.proofs.EdgesSign.{several-listed}
 use Rattle.tlv.specs.Heads.{part}
-use Rattle.tlv.specs.Spans.{parts}
+use Rattle.tlv.specs.Spans.{partsIn}
 use Rattle.tlv.specs.Writing.{Wrote}
 use Rattle.tlv.specs.declared.heads.Span.{Span}
 use Rattle.tlv.proofs.HeadLaws.{part-empty}
-use Rattle.command.specs.Parse.{Placed, FieldsPlaced, Answers}
+use Rattle.command.specs.Parse.{Placed, FieldsPlaced, FieldsRead}
 use Rattle.command.specs.declared.parse.Fields.{Fields}
 use Rattle.key_table.specs.Views.{viewRecord, viewTable, noRow, noRecord}
 use Rattle.key_table.specs.Lookups.{places, isChosen, RowsAre}
@@ -131,10 +131,10 @@ pub record Chose (s m : List ℕ) (t : Table) (rows : Rows) : Type 0 where
 
 -- what the rows found tell
 pub chose : {s m : List ℕ} {t : Table} {f : Fields} {rows : Rows} → FieldsPlaced s f → tableOk (viewTable t) ≡ true
-    → length (rows .at) ≡ 32 → RowsAre (places (isChosen m (parts s (f .handles))) 0 (viewTable t)) rows → Chose s m t rows
+    → length (rows .at) ≡ 32 → RowsAre (places (isChosen m (partsIn s (f .handles))) 0 (viewTable t)) rows → Chose s m t rows
 chose {s} {m} {t} {f} {rows} p ok l is =
     let v : records.Table = viewTable t in
-    let hs : List (List ℕ) = parts s (f .handles) in
+    let hs : List (List ℕ) = partsIn s (f .handles) in
     let g : ℕ → records.Record = λ i. getD v i noRecord in
     let fits : rows .len ≤ length (rows .at) = omega (arith, is .few) in
     let n : length (take (rows .len) (rows .at)) ≡ rows .len = length-take-le (rows .len) (rows .at) fits in
@@ -172,7 +172,7 @@ unfolding signChosen signOne signDraft
 chosen-one s a n m nonce hash r = refl
 
 -- j is what the code's judgment gave
-module _ {s : List ℕ} {f : Fields} (n : Numbers) (q : Answers sign s f) {j : Judged} (e : j ≡ judge (userChecks (f .broken) (n .verdict)) Fails Passes) where
+module _ {s : List ℕ} {f : Fields} (n : Numbers) (q : FieldsRead sign s f) {j : Judged} (e : j ≡ judge (userChecks (f .broken) (n .verdict)) Fails Passes) where
   judged-so : judge (userChecks (broken sign s) (n .verdict)) Fails Passes ≡ j
   judged-so = rw (← q .broken-is) (sym e)
 

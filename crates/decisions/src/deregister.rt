@@ -18,14 +18,14 @@ ghost use lib.ListN.{length};
 ghost use Rattle.model.specs.Tlv.{deregister};
 ghost use Rattle.model.specs.Records.{own};
 ghost use Rattle.model.specs.Commands.{judge, deregisterChecks, decideDeregister, leastOutput};
-ghost use Rattle.command.specs.Parse.{Answers};
+ghost use Rattle.command.specs.Parse.{FieldsRead};
 ghost use Rattle.key_table.specs.Views.{viewTable};
 ghost use Rattle.decisions.specs.Answers.{Decided};
 ghost use Rattle.decisions.specs.declared.answers.Judged.the-variants.{Fails, Passes};
 
 // Deregister's statuses in their order: a rule broken, then a KeyID that is not the caller's. An empty one always passes.
 fn judge_deregister(s: &[u8], f: Fields, mixed: &[u8], t: Table) -> Judged
-    requires { ⌜ Answers deregister (now s) f ⌝ }
+    requires { ⌜ FieldsRead deregister (now s) f ⌝ }
     requires { ⌜ t .len ≤ 32 ⌝ }
     ensures { λ r. ⌜
         r ≡ judge (deregisterChecks (now (s .entry)) (own (now (mixed .entry)) (viewTable t))) Fails Passes ⌝ }

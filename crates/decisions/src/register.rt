@@ -31,7 +31,7 @@ ghost use Rattle.model.specs.Lists.{among};
 ghost use Rattle.model.specs.Tlv.{register, full, surrogate};
 ghost use Rattle.model.specs.Records.{own, keyIds, maxRecords};
 ghost use Rattle.model.specs.Commands.{judge, registerChecks, decideRegister, leastOutput};
-ghost use Rattle.command.specs.Parse.{Answers};
+ghost use Rattle.command.specs.Parse.{FieldsRead};
 ghost use Rattle.key_table.specs.Views.{viewTable};
 ghost use Rattle.responses.specs.Lent.{lentRegister};
 ghost use Rattle.decisions.specs.Answers.{Decided};
@@ -56,7 +56,7 @@ fn judge_register(
     key_id: &[u8],
     t: Table,
 ) -> Judged
-    requires { ⌜ Answers register (now s) f ⌝ }
+    requires { ⌜ FieldsRead register (now s) f ⌝ }
     requires { ⌜ t .len ≤ 32 ⌝ }
     ensures { λ r. ⌜
         r ≡ judge (registerChecks (now (s .entry)) (lentRegister [] numbers (now (mixed .entry)) (now («key_id» .entry)) [])

@@ -21,7 +21,7 @@ use Rattle.tlv.specs.declared.heads.Span.{Span}
 use Rattle.tlv.specs.declared.heads.Head.{Head}
 use Rattle.tlv.specs.declared.heads.Head.the-variants.{Tlv as Found, Bad, End}
 use Rattle.tlv.proofs.HeadLaws.{IsTlv, tlv-is, run-end, run-bad, run-tlv, length-part}
-use Rattle.fields.specs.Fields.{named, allows, ruleWith, RuleIs, fieldIn, fieldAt}
+use Rattle.fields.specs.Fields.{named, allows, ruleWith, RuleIs, foundIn, fieldAt}
 use Rattle.fields.specs.declared.Allowed.{Allowed}
 use Rattle.fields.specs.declared.Rule.{Rule}
 use Rattle.fields.specs.declared.Field.{Field}
@@ -104,7 +104,7 @@ module _ (f : model.Field) (s : List ℕ) (at : ℕ) where
       })
   in-tlv tag start end p i false t x = let z : _≡_ {A = ℕ} 0 1 = cc in absurd (omega arith)
 
-  in-head : (h : Head) → headAt s at ≡ h → (p : Span) → fieldIn f s h ≡ At p → IsField f s at p
+  in-head : (h : Head) → headAt s at ≡ h → (p : Span) → foundIn f s h ≡ At p → IsField f s at p
   in-head (Found tag start end) q p x = in-tlv tag start end p (tlv-is s at tag start end q) _ refl x
   in-head Bad q p x = let z : _≡_ {A = ℕ} 0 1 = cc in absurd (omega arith)
   in-head End q p x = let z : _≡_ {A = ℕ} 0 1 = cc in absurd (omega arith)
@@ -120,7 +120,7 @@ module _ (f : model.Field) (s : List ℕ) (at : ℕ) where
   not-tlv l tag start end i false t x =
       rw (run-tlv i) (matches-first f l (tlv tag (between s start end)) (tlvs (drop end s)) ∙ rw t)
 
-  not-head : (l : Layout) (h : Head) → headAt s at ≡ h → fieldIn f s h ≡ Missing → isRun (matches (field f l)) (tlvs (drop at s)) ≡ false
+  not-head : (l : Layout) (h : Head) → headAt s at ≡ h → foundIn f s h ≡ Missing → isRun (matches (field f l)) (tlvs (drop at s)) ≡ false
   unfolding matches
   not-head l (Found tag start end) q x = not-tlv l tag start end (tlv-is s at tag start end q) _ refl x
   not-head l Bad q x = rw (run-bad s at q)

@@ -95,11 +95,11 @@ pub record RuleIs (f : Field) (r : Rule) : Type 0 where
   pub allowed-is : (v : List ℕ) → allows (r .allowed) v ≡ ruleOf (named f) .allowed v
 
 -- a TLV with the field's tag, whose value obeys its rule
-abbrev pub fieldIn : model.Field → List ℕ → Head → Found
-fieldIn f s (Tlv tag start end) = cond (eqb tag (tagOf f) && fits f (between s start end)) (At (span start end)) Missing
-fieldIn f s Bad = Missing
-fieldIn f s End = Missing
+abbrev pub foundIn : model.Field → List ℕ → Head → Found
+foundIn f s (Tlv tag start end) = cond (eqb tag (tagOf f) && fits f (between s start end)) (At (span start end)) Missing
+foundIn f s Bad = Missing
+foundIn f s End = Missing
 
 -- the field at a place of a stretch
 unfoldable pub fieldAt : model.Field → List ℕ → ℕ → Found
-fieldAt f s at = fieldIn f s (headAt s at)
+fieldAt f s at = foundIn f s (headAt s at)

@@ -16,7 +16,7 @@ use Rattle.model.specs.Records.{own, keyIds}
 use Rattle.model.specs.Commands.{chosen}
 use Rattle.model.proofs.Basics.{split, eqBytes-sym, select-both}
 use Rattle.tlv.specs.Heads.{part}
-use Rattle.tlv.specs.Spans.{span, noSpan, parts, AllInside}
+use Rattle.tlv.specs.Spans.{span, noSpan, partsIn, AllInside}
 use Rattle.tlv.specs.declared.heads.Spans.{Spans}
 use Rattle.tlv.proofs.HeadLaws.{empty-size}
 use Rattle.columns.specs.Columns.{rows, row, times}
@@ -34,34 +34,34 @@ given-one key [] h = absurd (omega arith)
 given-one key (x ∷ hs) h = refl
 
 module _ (s : List ℕ) (ps : Spans) (key : List ℕ) where
-  pub given-none : ps .len ≡ 0 → (empty (parts s ps) || among key (parts s ps)) ≡ true
-  unfolding parts
+  pub given-none : ps .len ≡ 0 → (empty (partsIn s ps) || among key (partsIn s ps)) ≡ true
+  unfolding partsIn
   given-none e =
-      let n : parts s ps ≡ [] = ap (λ (n : ℕ). map (part s) (take n (ps .at))) e in
+      let n : partsIn s ps ≡ [] = ap (λ (n : ℕ). map (part s) (take n (ps .at))) e in
       rw n
 
   module _ (fits : ps .len ≤ length (ps .at)) where
-    length-parts : length (parts s ps) ≡ ps .len
-    unfolding parts
+    length-parts : length (partsIn s ps) ≡ ps .len
+    unfolding partsIn
     length-parts = simp (length-map, length-take-le (ps .len) (ps .at) fits)
 
-    pub given-some : (ps .len ≡ 0 → ⊥) → (empty (parts s ps) || among key (parts s ps)) ≡ among key (parts s ps)
-    given-some h = given-one key (parts s ps) (pos-of-ne-zero (λ e. h (sym length-parts ∙ e)))
+    pub given-some : (ps .len ≡ 0 → ⊥) → (empty (partsIn s ps) || among key (partsIn s ps)) ≡ among key (partsIn s ps)
+    given-some h = given-one key (partsIn s ps) (pos-of-ne-zero (λ e. h (sym length-parts ∙ e)))
 
-    pub given-end : (j : ℕ) → ps .len ≤ j → among key (drop j (parts s ps)) ≡ false
-    given-end j h = rw (drop-of-length-le (parts s ps) {i = j} (omega (arith, length-parts)))
+    pub given-end : (j : ℕ) → ps .len ≤ j → among key (drop j (partsIn s ps)) ≡ false
+    given-end j h = rw (drop-of-length-le (partsIn s ps) {i = j} (omega (arith, length-parts)))
 
     module _ (j : ℕ) (h : j < ps .len) where
-      parts-at : drop j (parts s ps) ≡ part s (getD (ps .at) j noSpan) ∷ drop (j + 1) (parts s ps)
-      unfolding parts
+      parts-at : drop j (partsIn s ps) ≡ part s (getD (ps .at) j noSpan) ∷ drop (j + 1) (partsIn s ps)
+      unfolding partsIn
       parts-at =
-          let e : getD (parts s ps) j (part s noSpan) ≡ part s (getD (ps .at) j noSpan) =
+          let e : getD (partsIn s ps) j (part s noSpan) ≡ part s (getD (ps .at) j noSpan) =
           List·getD-map (part s) (take (ps .len) (ps .at)) j noSpan ∙ ap (part s) (getD-take (ps .len) (ps .at) j noSpan h) in
-          drop-cons (parts s ps) j (part s noSpan) (omega (arith, length-parts)) ∙ rw (e, add-one)
+          drop-cons (partsIn s ps) j (part s noSpan) (omega (arith, length-parts)) ∙ rw (e, add-one)
 
       -- at handle j, where b is what its test gave
       pub given-at : (b : Bool) → b ≡ eqBytes key (part s (getD (ps .at) j noSpan))
-          → among key (drop j (parts s ps)) ≡ (b || among key (drop (j + 1) (parts s ps)))
+          → among key (drop j (partsIn s ps)) ≡ (b || among key (drop (j + 1) (partsIn s ps)))
       given-at b e = rw parts-at (rw (eqBytes-sym (part s (getD (ps .at) j noSpan)) key, ← e))
 
 -- ---- a walk over two columns
@@ -156,8 +156,8 @@ pub only-inside : (k : List ℕ) → AllInside k (onlyHandle k)
 only-inside k =
     record { few = omega arith; each = λ i l. let e : i ≡ 0 = omega (arith, l) in rw e (record { ordered = omega arith; within = omega arith }) }
 
-only-is : (k : List ℕ) → parts k (onlyHandle k) ≡ k ∷ []
-unfolding parts
+only-is : (k : List ℕ) → partsIn k (onlyHandle k) ≡ k ∷ []
+unfolding partsIn
 only-is k =
     let e : length k - 0 ≡ length k = omega arith in
     rw (e, take-length k)
@@ -174,7 +174,7 @@ own-chosen m k i (r ∷ t) =
     (λ e. rw e ih)
 
 pub own-found : (m k : List ℕ) (t : model.Table) (r : Rows) → length (r .at) ≡ 32
-    → RowsAre (places (isChosen m (parts k (onlyHandle k))) 0 t) r → not (eqb (r .len) 0) ≡ among k (keyIds (own m t))
+    → RowsAre (places (isChosen m (partsIn k (onlyHandle k))) 0 t) r → not (eqb (r .len) 0) ≡ among k (keyIds (own m t))
 own-found m k t r n h =
     let is = places (isChosen m (k ∷ [])) 0 t in
     let q : RowsAre is r = rw (only-is k) at h in

@@ -9,14 +9,14 @@ use lib.ListN.{length, getD, take, drop, set, length-map, length-set, List·getD
 use lib.Seq.{take-suc, take-suc-set, getD-take, drop-cons}
 use Rattle.columns.specs.Firsts.{firsts}
 use Rattle.columns.proofs.FirstLaws.{firsts-take, length-firsts, firsts-firsts}
-use Rattle.key_table.specs.Views.{entry, viewRecord, viewTable, noRow, noRecord, rowOf, TidyRow}
+use Rattle.key_table.specs.Views.{recordOf, viewRecord, viewTable, noRow, noRecord, rowOf, TidyRow}
 use Rattle.key_table.specs.declared.records.Record.{Record}
 use Rattle.key_table.specs.declared.records.Table.{Table}
 
 -- ---- a row that holds a record
 
 module _ {k m : List ℕ} (v : List ℕ) {n : ℕ} {r : Record} (h : length v ≤ 128) (e : r ≡ rowOf k m v n) where
-  pub view-row : viewRecord r ≡ entry k m v n
+  pub view-row : viewRecord r ≡ recordOf k m v n
   view-row = ap viewRecord e ∙ rw (firsts-firsts 0 128 v h)
 
   pub tidy-row : TidyRow r

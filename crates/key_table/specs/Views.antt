@@ -9,12 +9,12 @@ use Rattle.key_table.specs.declared.records.Record.{Record}
 use Rattle.key_table.specs.declared.records.Table.{Table}
 
 -- the record of these fields
-abbrev pub entry : List ℕ → List ℕ → List ℕ → ℕ → model.Record
-entry k m v n = record { keyId = k; mixed = m; name = v; count = n }
+abbrev pub recordOf : List ℕ → List ℕ → List ℕ → ℕ → model.Record
+recordOf k m v n = record { keyId = k; mixed = m; name = v; count = n }
 
 -- a name that says that it is longer than its array is that long here too, and so breaks the rule for names
 abbrev pub viewRecord : Record → model.Record
-viewRecord r = entry (r .«key_id») (r .mixed) (firsts 0 (r .«name_len») (r .name)) (r .count)
+viewRecord r = recordOf (r .«key_id») (r .mixed) (firsts 0 (r .«name_len») (r .name)) (r .count)
 
 -- what reading past the last row would give
 abbrev pub noRow : Record
@@ -30,7 +30,7 @@ rowOf k m v n = record { «key_id» = k; mixed = m; name = firsts 0 128 v; «nam
 
 -- what reading past the last record would give
 abbrev pub noRecord : model.Record
-noRecord = entry [] [] [] 0
+noRecord = recordOf [] [] [] 0
 
 -- oldest first; a number above 32 is that many records here too, and so breaks the rule for tables
 unfoldable pub viewTable : Table → model.Table

@@ -13,7 +13,7 @@ ghost use mathlib.Core.Bool.{_||_};
 ghost use lib.ListN.{length};
 ghost use Rattle.model.specs.Lists.{among, empty};
 ghost use Rattle.model.specs.Records.{own, keyIds};
-ghost use Rattle.tlv.specs.Spans.{parts, AllInside};
+ghost use Rattle.tlv.specs.Spans.{partsIn, AllInside};
 ghost use Rattle.columns.specs.Columns.{rows, row};
 ghost use Rattle.key_table.specs.Views.{viewTable};
 ghost use Rattle.key_table.specs.Lookups.{RowsAre, places, isChosen, chosenIn};
@@ -42,7 +42,7 @@ pub fn own_count(t: Table, mixed: &[u8]) -> usize
 fn is_given(keys: &[u8], i: usize, s: &[u8], handles: Spans) -> bool
     requires { ⌜ 32 * i + 32 ≤ length (now keys) ⌝ }
     requires { ⌜ AllInside (now s) handles ⌝ }
-    ensures { λ r. ⌜ r ≡ (empty (parts (now (s .entry)) handles) || among (row i (now (keys .entry))) (parts (now (s .entry)) handles)) ⌝ }
+    ensures { λ r. ⌜ r ≡ (empty (partsIn (now (s .entry)) handles) || among (row i (now (keys .entry))) (partsIn (now (s .entry)) handles)) ⌝ }
 {
     let n = handles.len;
     if n == 0 {
@@ -69,7 +69,7 @@ pub struct Rows {
 fn choose(keys: &[u8], owners: &[u8], n: usize, mixed: &[u8], s: &[u8], handles: Spans) -> Rows
     requires { ⌜ (n ≤ 32) × (32 * n ≤ length (now keys)) × (32 * n ≤ length (now owners)) ⌝ }
     requires { ⌜ AllInside (now s) handles ⌝ }
-    ensures { λ r. ⌜ RowsAre (chosenIn (now (mixed .entry)) (parts (now (s .entry)) handles) 0 (rows n (now (owners .entry))) (rows n (now (keys .entry)))) r ⌝ }
+    ensures { λ r. ⌜ RowsAre (chosenIn (now (mixed .entry)) (partsIn (now (s .entry)) handles) 0 (rows n (now (owners .entry))) (rows n (now (keys .entry)))) r ⌝ }
 {
     let mut at = [0usize; 32];
     let mut len = 0;
@@ -90,7 +90,7 @@ fn choose(keys: &[u8], owners: &[u8], n: usize, mixed: &[u8], s: &[u8], handles:
 pub fn chosen(t: Table, mixed: &[u8], s: &[u8], handles: Spans) -> Rows
     requires { ⌜ t .len ≤ 32 ⌝ }
     requires { ⌜ AllInside (now s) handles ⌝ }
-    ensures { λ r. ⌜ RowsAre (places (isChosen (now (mixed .entry)) (parts (now (s .entry)) handles)) 0 (viewTable t)) r ⌝ }
+    ensures { λ r. ⌜ RowsAre (places (isChosen (now (mixed .entry)) (partsIn (now (s .entry)) handles)) 0 (viewTable t)) r ⌝ }
 {
     let n = t.len;
     let owners = column(t, Cell::Mixed);

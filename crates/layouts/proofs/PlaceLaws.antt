@@ -17,7 +17,7 @@ use Rattle.tlv.specs.Heads.{headAt, between}
 use Rattle.tlv.specs.declared.heads.Head.{Head}
 use Rattle.tlv.specs.declared.heads.Head.the-variants.{Tlv as Found, Bad, End}
 use Rattle.tlv.proofs.HeadLaws.{IsTlv, tlv-is, bad-is, end-is, run-end, run-bad, run-tlv}
-use Rattle.fields.specs.Fields.{fieldIn, fieldAt}
+use Rattle.fields.specs.Fields.{foundIn, fieldAt}
 use Rattle.fields.specs.declared.Found.{Found as FieldFound}
 use Rattle.fields.specs.declared.Found.the-variants.{At, Missing}
 use Rattle.fields.proofs.FieldLaws.{end-first, field-is, field-not, field-step}
@@ -216,7 +216,7 @@ module _ {s : List ℕ} {at to : ℕ} (h : to ≤ length s) where
   unfolding afterGroup
   group-before t inner e = past-tlv t inner (headAt s at) refl e
 
-  field-tlv : (f : Field) (o : Head) → headAt s at ≡ o → to ≡ pastFound s (fieldIn f s o) → IsTlv s at (tagOf f) (at + 4) to
+  field-tlv : (f : Field) (o : Head) → headAt s at ≡ o → to ≡ pastFound s (foundIn f s o) → IsTlv s at (tagOf f) (at + 4) to
   field-tlv f (Found tag start stop) q e =
       let i = tlv-is s at tag start stop q in
       split (eqb tag (tagOf f) && fits f (between s start stop))

@@ -1,5 +1,5 @@
 -- The laws of the response reader: the walk over a response, its shapes, its list of names.
 pub mod MetLaws
-pub mod WalkLaws
+pub mod ReadingLaws
 pub mod ShapeLaws
 pub mod NameLaws

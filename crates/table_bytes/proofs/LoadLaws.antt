@@ -30,7 +30,7 @@ use Rattle.key_table.specs.Views.{viewRecord, viewTable, rowOf, spareRow, TidyR
 use Rattle.key_table.specs.declared.records.Record.{Record}
 use Rattle.key_table.proofs.ViewLaws.{table, view-row, tidy-row, length-view, view-next}
 use Rattle.key_table.proofs.TidyLaws.{tidy-next}
-use Rattle.table_bytes.specs.Stored.{storedIn, partsRecord, RowParts, RowIs, tested}
+use Rattle.table_bytes.specs.Stored.{storedIn, partsRecord, RowParts, RowIs, ifOk}
 use Rattle.table_bytes.specs.declared.stored.Row.{Row}
 
 -- ---- no record
@@ -143,8 +143,8 @@ decode-all : (s : List ℕ) → decode s ≡ decodeFrom [] (tlvs s)
 unfolding decode decodeFrom
 decode-all s = refl
 
-from-end : (t : model.Table) → decodeFrom t (some []) ≡ tested t
-unfolding decodeFrom tested bind
+from-end : (t : model.Table) → decodeFrom t (some []) ≡ ifOk t
+unfolding decodeFrom ifOk bind
 from-end t = rw append-nil
 
 from-none : (t : model.Table) → decodeFrom t none ≡ none
@@ -209,7 +209,7 @@ loading s {r} e =
     record { few = omega arith; size = length-firsts r 32 []; within = omega arith; rest = decode-all s; tidy = tidy-none e }
 
 module _ {s : List ℕ} {rows : List Record} {n at : ℕ} (p : Loading s rows n at) where
-  pub load-end : headAt s at ≡ End → decode s ≡ tested (viewTable (table rows n))
+  pub load-end : headAt s at ≡ End → decode s ≡ ifOk (viewTable (table rows n))
   load-end e = p .rest ∙ rw (run-end s at e) (from-end (viewTable (table rows n)))
 
   pub load-bad : headAt s at ≡ Bad → decode s ≡ none

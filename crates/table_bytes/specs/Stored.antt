@@ -13,7 +13,7 @@ use Rattle.tlv.specs.Numbers.{numAt}
 use Rattle.tlv.specs.Heads.{part}
 use Rattle.tlv.specs.Spans.{Inside}
 use Rattle.tlv.specs.declared.heads.Span.{Span}
-use Rattle.key_table.specs.Views.{entry, viewRecord, viewTable, TidyRow, Tidy}
+use Rattle.key_table.specs.Views.{recordOf, viewRecord, viewTable, TidyRow, Tidy}
 use Rattle.table_bytes.specs.declared.stored.Row.{Row}
 use Rattle.table_bytes.specs.declared.stored.Loaded.{Loaded}
 
@@ -33,7 +33,7 @@ storedIn v = cond (matches storedRecord (tlv pairTag v ∷ [])) (some (storedAs 
 
 -- the record of these parts of a value
 abbrev pub partsRecord : List ℕ → Span → Span → Span → Span → Option model.Record
-partsRecord v key mixed name count = some (entry (part v key) (part v mixed) (part v name) (numAt 4 v (count .start)))
+partsRecord v key mixed name count = some (recordOf (part v key) (part v mixed) (part v name) (numAt 4 v (count .start)))
 
 -- these parts of a value have the lengths of a record's fields
 pub record RowParts (v : List ℕ) (key mixed name count : Span) : Type 0 where
@@ -46,5 +46,5 @@ pub record RowParts (v : List ℕ) (key mixed name count : Span) : Type 0 where
   pub count-within : count .start + 4 ≤ length v
 
 -- a table that obeys the rules
-unfoldable pub tested : model.Table → Option model.Table
-tested t = cond (tableOk t) (some t) none
+unfoldable pub ifOk : model.Table → Option model.Table
+ifOk t = cond (tableOk t) (some t) none

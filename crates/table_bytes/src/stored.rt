@@ -27,7 +27,7 @@ ghost use Rattle.model.specs.Tlv.{tlv, bytes};
 ghost use Rattle.model.specs.Records.{tableOk, encode, decode, maxStored};
 ghost use Rattle.tlv.specs.Writing.{Wrote};
 ghost use Rattle.key_table.specs.Views.{viewRecord, viewTable, Tidy};
-ghost use Rattle.table_bytes.specs.Stored.{storedIn, tested, RowParts, partsRecord, RowIs, TableIs};
+ghost use Rattle.table_bytes.specs.Stored.{storedIn, ifOk, RowParts, partsRecord, RowIs, TableIs};
 
 // A record, if there is one.
 struct Row {
@@ -104,7 +104,7 @@ fn no_table() -> Loaded
 // A table, if it obeys the record rules.
 fn if_ok(t: Table) -> Loaded
     requires { ⌜ Tidy t ⌝ }
-    ensures { λ r. ⌜ TableIs (tested (viewTable t)) r ⌝ }
+    ensures { λ r. ⌜ TableIs (ifOk (viewTable t)) r ⌝ }
 {
     if table_ok(t) {
         return Loaded { ok: true, table: t };

@@ -15,8 +15,8 @@ abbrev pub noSpan : Span
 noSpan = span 0 0
 
 -- the parts of a stretch, in their order
-unfoldable pub parts : List ℕ → Spans → List (List ℕ)
-parts s ps = map (part s) (take (ps .len) (ps .at))
+unfoldable pub partsIn : List ℕ → Spans → List (List ℕ)
+partsIn s ps = map (part s) (take (ps .len) (ps .at))
 
 -- a part lies in a stretch
 pub record Inside (s : List ℕ) (p : Span) : Type 0 where

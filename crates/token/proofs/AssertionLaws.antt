@@ -18,8 +18,8 @@ use Rattle.assertion.specs.declared.Completed.the-variants.{Refused, Wrote}
 use Rattle.response_reader.specs.Met.{met, fieldsMet, spanOf, signedMet}
 use Rattle.response_reader.specs.Readings.{partsOf, readingOf}
 use Rattle.response_reader.specs.declared.fields_of.Reading.{Reading}
-use Rattle.response_reader.proofs.WalkLaws.{firstSigned, signed-inside, response-is, few-fields}
-use Rattle.token.specs.Assertions.{wrote, completedAs, points, pointed, ReturnedFields, lists, listed}
+use Rattle.response_reader.proofs.ReadingLaws.{firstSigned, signed-inside, response-is, few-fields}
+use Rattle.token.specs.Assertions.{wrote, completedAs, points, pointed, ReturnedFields, getsFields, returnedFields}
 
 -- ---- completion
 
@@ -86,15 +86,15 @@ list-is s f e = ap (λ (x : Reading). x .refusal) f ∙ rw (response-is s e)
 
 module _ (s : List ℕ) {r : Reading} (f : r ≡ readingOf (readResponse s)) (b : ReturnedFields) where
   pub list-refused : (r .refusal ≡ 0 → ⊥)
-      → lists (r .refusal) (b .tag) (b .status) (b .count) (b .tags) (b .places) (b .lengths) ≡ listed (readResponse s) b
-  unfolding listed
+      → getsFields (r .refusal) (b .tag) (b .status) (b .count) (b .tags) (b .places) (b .lengths) ≡ returnedFields (readResponse s) b
+  unfolding returnedFields
   list-refused h =
       split (isResponse s) (λ e. absurd (h (list-is s f e))) (λ e. rw (list-not s f e, not-read s e))
 
   pub list-gave : r .refusal ≡ 0
-      → lists 0 (r .tag) (r .status) (r .parts .len) (r .parts .tags) (r .parts .places) (r .parts .lengths)
-      ≡ listed (readResponse s) b
-  unfolding listed readingOf partsOf
+      → getsFields 0 (r .tag) (r .status) (r .parts .len) (r .parts .tags) (r .parts .places) (r .parts .lengths)
+      ≡ returnedFields (readResponse s) b
+  unfolding returnedFields readingOf partsOf
   list-gave h =
       split (isResponse s)
       (λ e. let k : length (take 17 (fieldsMet s)) ≡ length (fieldsMet s) = ap length (take-all 17 (fieldsMet s) (few-fields s e)) in

@@ -25,7 +25,7 @@ use Rattle.authenticator.specs.Answers.{number, said, sizes, Gives, served}
 use Rattle.authenticator.specs.declared.answers.Refusal.{Refusal}
 use Rattle.authenticator.specs.declared.answers.Outcome.the-variants.{Refused, Gave}
 use Rattle.authenticator.specs.declared.answers.Ran.{Ran}
-use Rattle.authenticator.proofs.RunLaws.{outcome-served, served-same, long-outputs}
+use Rattle.authenticator.proofs.CallLaws.{outcome-served, served-same, long-outputs}
 use Rattle.token.specs.Returned.{Returned, gets, answerNumber, toldKind, toldLength, returned}
 
 -- ---- the table given

@@ -23,7 +23,7 @@ use Rattle.model.proofs.EdgesSign.{picked}
 use Rattle.model.proofs.ReadBack.{CompletionReadBack, completion-read-back, DraftReadBack, draft-read-back}
 use Rattle.response_reader.specs.Readings.{column}
 use Rattle.token.specs.Returned.{Returned, answerNumber, returned}
-use Rattle.token.specs.Assertions.{ReturnedCompletion, completedAs, ReturnedPart, pointed, ReturnedFields, listed}
+use Rattle.token.specs.Assertions.{ReturnedCompletion, completedAs, ReturnedPart, pointed, ReturnedFields, returnedFields}
 
 -- what the reader's two entries gave of a response with these bytes, where c is the completion that wrote it, of a draft with this layout and
 -- these values for its fields
@@ -71,8 +71,8 @@ gave-of c b w p z =
 -- ---- and that is read back
 
 module _ (c : Completion) (s : List ℕ) (m : Layout) (vs : List (List ℕ)) (k : CompletionReadBack c m vs s) (p : ReturnedPart) (l : ReturnedFields) where
-  reads-back : (let x : Reading = k .back .reading in ReadsBack c m vs s (pointed (gave x) p) (listed (gave x) l))
-  unfolding pointed listed
+  reads-back : (let x : Reading = k .back .reading in ReadsBack c m vs s (pointed (gave x) p) (returnedFields (gave x) l))
+  unfolding pointed returnedFields
   reads-back =
       record {
         signed = refl;
@@ -97,7 +97,7 @@ pub completion-reads-back : (c : Completion) (m : Layout) (vs : List (List ℕ))
     → (b w : ReturnedCompletion) (p₀ p : ReturnedPart) (l₀ l : ReturnedFields)
     → w ≡ completedAs (complete c) b → w .code ≡ 0
     → p ≡ pointed (readResponse (take (w .responseLength) (w .response))) p₀
-    → l ≡ listed (readResponse (take (w .responseLength) (w .response))) l₀
+    → l ≡ returnedFields (readResponse (take (w .responseLength) (w .response))) l₀
     → ReadsBack c m vs (take (w .responseLength) (w .response)) p l
 completion-reads-back c m vs t b w p₀ p l₀ l e z ep el =
     let (g, n, r) = gave-of c b w e z in
@@ -150,7 +150,7 @@ pub draft-reads-back : (c : Call) (g : Given) (x : Completion) (r₀ r : Returne
     → r ≡ returned (outcome c g) r₀ → r .code ≡ 0 → r .answer ≡ 1 → x .draft ≡ take (r .responseLength) (r .response)
     → w ≡ completedAs (complete x) b → w .code ≡ 0
     → p ≡ pointed (readResponse (take (w .responseLength) (w .response))) p₀
-    → l ≡ listed (readResponse (take (w .responseLength) (w .response))) l₀
+    → l ≡ returnedFields (readResponse (take (w .responseLength) (w .response))) l₀
     → DraftReadsBack c x (take (w .responseLength) (w .response)) p l
 draft-reads-back c g x r₀ r b w p₀ p l₀ l er zr dr ex e z ep el =
     let (f, o, a) = draft-of c g r₀ r er zr dr in

@@ -48,12 +48,12 @@ pub record ReturnedFields : Type 0 where
   pub lengths : List ℕ
 
 -- these seven
-abbrev pub lists : (code tag status count : ℕ) → (tags places lengths : List ℕ) → ReturnedFields
-lists c t u n ts ps ls = record { code = c; tag = t; status = u; count = n; tags = ts; places = ps; lengths = ls }
+abbrev pub getsFields : (code tag status count : ℕ) → (tags places lengths : List ℕ) → ReturnedFields
+getsFields c t u n ts ps ls = record { code = c; tag = t; status = u; count = n; tags = ts; places = ps; lengths = ls }
 
 -- from a second call with this result that was lent these
-unfoldable pub listed : Result Reading → ReturnedFields → ReturnedFields
-listed (refused n) b = lists n (b .tag) (b .status) (b .count) (b .tags) (b .places) (b .lengths)
-listed (gave r) b =
-    lists 0 (r .tag) (r .status) (length (r .fields)) (column (λ p. p .tag) (r .fields)) (column (λ p. p .place) (r .fields))
+unfoldable pub returnedFields : Result Reading → ReturnedFields → ReturnedFields
+returnedFields (refused n) b = getsFields n (b .tag) (b .status) (b .count) (b .tags) (b .places) (b .lengths)
+returnedFields (gave r) b =
+    getsFields 0 (r .tag) (r .status) (length (r .fields)) (column (λ p. p .tag) (r .fields)) (column (λ p. p .place) (r .fields))
     (column (λ p. p .size) (r .fields))

@@ -10,7 +10,7 @@ ghost use lib.ListN.{length};
 ghost use Rattle.model.specs.Complete.{complete};
 ghost use Rattle.model.specs.Reader.{readResponse};
 ghost use Rattle.assertion.specs.Completions.{completion};
-ghost use Rattle.token.specs.Assertions.{wrote, completedAs, points, pointed, lists, listed};
+ghost use Rattle.token.specs.Assertions.{wrote, completedAs, points, pointed, getsFields, returnedFields};
 
 // Completes a draft: 0 or the number of a refusal, and after 0 the response and its length.
 #[no_mangle]
@@ -77,9 +77,9 @@ pub extern "C" fn uaf_read_fields(
     lengths: &mut [usize; MOST_FIELDS],
 ) -> u32
     ensures { λ r. ⌜
-        lists r (now (tag .exit)) (now (status .exit)) (now (count .exit)) (now (tags .exit)) (now (places .exit)) (now (lengths .exit))
-        ≡ listed (readResponse (now (response .entry)))
-        (lists 0 (now (tag .entry)) (now (status .entry)) (now (count .entry)) (now (tags .entry)) (now (places .entry)) (now (lengths .entry))) ⌝ }
+        getsFields r (now (tag .exit)) (now (status .exit)) (now (count .exit)) (now (tags .exit)) (now (places .exit)) (now (lengths .exit))
+        ≡ returnedFields (readResponse (now (response .entry)))
+        (getsFields 0 (now (tag .entry)) (now (status .entry)) (now (count .entry)) (now (tags .entry)) (now (places .entry)) (now (lengths .entry))) ⌝ }
 {
     let r = read_fields(response);
     if r.refusal != 0 {

@@ -2,7 +2,7 @@ use mathlib.Core.Path.{ap}
 use lib.ListN.{length}
 use native.Mathlib.Omega.{arith}
 use Rattle.key_table.proofs.RuleLaws.{few-rows}
-use Rattle.authenticator.proofs.RunLaws.{arm-can, arm-left, left-kept, left-counted}
+use Rattle.authenticator.proofs.CallLaws.{arm-can, arm-left, left-kept, left-counted}
 use borrow.Author.Needs.{needs}
 use Rattle.authenticator.proofs.run.apply.Statement.{statement}
 use Rattle.authenticator.proofs.run.apply.Tie as tie

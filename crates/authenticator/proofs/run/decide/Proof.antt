@@ -1,4 +1,4 @@
-use Rattle.authenticator.proofs.RunLaws.{keeps-decides, arm-decides, arm-rules}
+use Rattle.authenticator.proofs.CallLaws.{keeps-decides, arm-decides, arm-rules}
 use Rattle.key_table.proofs.RuleLaws.{few-rows}
 use native.Mathlib.Omega.{arith}
 use borrow.Author.Needs.{needs}

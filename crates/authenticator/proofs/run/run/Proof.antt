@@ -5,7 +5,7 @@ use Rattle.model.proofs.Refusals.{short-output, no-table}
 use native.Mathlib.Omega.{arith}
 use borrow.Author.Tests.{not-true, not-false}
 use Rattle.authenticator.specs.declared.answers.Refusal.the-variants.{ShortOutput, BrokenTable}
-use Rattle.authenticator.proofs.RunLaws.{outcome-served, long-outputs, value-broken, value-there, gives-refused}
+use Rattle.authenticator.proofs.CallLaws.{outcome-served, long-outputs, value-broken, value-there, gives-refused}
 use borrow.Author.Needs.{needs}
 use Rattle.authenticator.proofs.run.run.Statement.{statement}
 use Rattle.authenticator.proofs.run.run.Tie as tie

@@ -1,7 +1,7 @@
 use mathlib.Core.Path.{sym, _∙_}
 use borrow.Author.Tests.{not-true, not-false}
 use Rattle.authenticator.specs.declared.answers.Refusal.the-variants.{NoCommand, WrongLent}
-use Rattle.authenticator.proofs.RunLaws.{kind-named, served-unknown, served-wrong, served-gave, gives-refused, gives-decided}
+use Rattle.authenticator.proofs.CallLaws.{kind-named, served-unknown, served-wrong, served-gave, gives-refused, gives-decided}
 use borrow.Author.Needs.{needs}
 use Rattle.authenticator.proofs.run.serve.Statement.{statement}
 use Rattle.authenticator.proofs.run.serve.Tie as tie

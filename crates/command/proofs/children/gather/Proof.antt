@@ -7,7 +7,7 @@ use lib.ListN.{length}
 use denote.Ref.{now}
 use Rattle.tlv.proofs.HeadLaws.{IsTlv, tlv-is}
 use Rattle.command.proofs.SlotLaws.{Slotted, slotted-none, slotted-first, slotted-again, slotted-other, slotted-end}
-use Rattle.command.proofs.RunLaws.{run-broken}
+use Rattle.command.proofs.ChildLaws.{run-broken}
 use Rattle.command.proofs.children.gather.Statement.{statement}
 use Rattle.command.proofs.children.gather.Tie as tie
 

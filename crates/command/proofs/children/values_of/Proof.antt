@@ -7,7 +7,7 @@ use lib.ListN.{length}
 use denote.Ref.{now}
 use Rattle.tlv.proofs.HeadLaws.{IsTlv, tlv-is}
 use Rattle.command.proofs.ValueLaws.{Gathered, gather-none, gather-more, gather-full, gather-other, gather-end}
-use Rattle.command.proofs.RunLaws.{run-broken}
+use Rattle.command.proofs.ChildLaws.{run-broken}
 use Rattle.command.proofs.children.values_of.Statement.{statement}
 use Rattle.command.proofs.children.values_of.Tie as tie
 

@@ -8,7 +8,7 @@ use Rattle.model.specs.Lists.{all}
 use Rattle.model.specs.Tlv.{tlvs, isRun, broken, fills}
 use Rattle.command.specs.Kinds.{kindIs}
 use Rattle.command.specs.Children.{childPasses}
-use Rattle.command.proofs.ParseLaws.{rest-part, broken-long, broken-cut, broken-child, broken-times, whole-place, passed-run, answers-broken, answers-picked, unbroken-given, few-handles}
+use Rattle.command.proofs.ParseLaws.{rest-part, broken-long, broken-cut, broken-child, broken-times, whole-place, passed-run, read-broken, read-picked, unbroken-given, few-handles}
 use borrow.Author.Needs.{needs}
 use Rattle.command.proofs.parse.fields_of.Statement.{statement}
 use Rattle.command.proofs.parse.fields_of.Tie as tie
@@ -47,7 +47,7 @@ no-fields-requires : tie.Need-no-fields-requires
 no-fields-requires c κs = search needs
 
 returns : tie.Need-returns
-returns c = answers-broken (broken-long _ _ (c .before .if1 .taken)) (c .no-fields .ensures)
+returns c = read-broken (broken-long _ _ (c .before .if1 .taken)) (c .no-fields .ensures)
 
 is-whole-requires : tie.Need-is-whole-requires
 is-whole-requires c κs = search needs
@@ -58,7 +58,7 @@ no-fields-requires-2 c κs = search needs
 returns-2 : tie.Need-returns-2
 returns-2 c =
     let w = c .before in
-    answers-broken (broken-cut _ _ (sym (w .before .is-whole .ensures) ∙ not-true _ (w .if2 .taken))) (c .no-fields2 .ensures)
+    read-broken (broken-cut _ _ (sym (w .before .is-whole .ensures) ∙ not-true _ (w .if2 .taken))) (c .no-fields2 .ensures)
 
 sub-are-children : tie.Need-sub-are-children
 sub-are-children c = place c
@@ -78,7 +78,7 @@ no-fields-requires-3 c κs = search needs
 returns-3 : tie.Need-returns-3
 returns-3 c =
     let p = c .before .before in
-    answers-broken (broken-child _ _ (whole (p .before .before)) (child p ∙ not-true _ (c .before .if3 .taken))) (c .no-fields3 .ensures)
+    read-broken (broken-child _ _ (whole (p .before .before)) (child p ∙ not-true _ (c .before .if3 .taken))) (c .no-fields3 .ensures)
 
 gather-requires : tie.Need-gather-requires
 gather-requires c κs =
@@ -92,7 +92,7 @@ no-fields-requires-4 : tie.Need-no-fields-requires-4
 no-fields-requires-4 c κs = search needs
 
 returns-4 : tie.Need-returns-4
-returns-4 c = answers-broken (told (c .before .before) ∙ c .before .if4 .taken) (c .no-fields4 .ensures)
+returns-4 c = read-broken (told (c .before .before) ∙ c .before .if4 .taken) (c .no-fields4 .ensures)
 
 handles-in-requires : tie.Need-handles-in-requires
 handles-in-requires c κs = let b = sound c in (unbroken-given _ _ b, few-handles _ _ b)
@@ -122,7 +122,7 @@ returns-5 : tie.Need-returns-5
 returns-5 c =
     let h = c .before .before .before .before .before .before .before in
     let s = h .before in
-    answers-picked (sound s) (s .before .before .gather .ensures) (h .handles-in .ensures)
+    read-picked (sound s) (s .before .before .gather .ensures) (h .handles-in .ensures)
 
 pub fields-of-spec : {M : Type 1} → statement M
 fields-of-spec =

@@ -6,7 +6,7 @@ use Prim.Native.Nat.{ℕ, _-_, _≤_}
 use native.Mathlib.Omega.{arith}
 use denote.Ref.{now}
 use lib.ListN.{length, take, length-set}
-use Rattle.tlv.specs.Spans.{parts}
+use Rattle.tlv.specs.Spans.{partsIn}
 use Rattle.key_table.proofs.LookupLaws.{chosenFrom, chosen-end, chosen-at, stored}
 use Rattle.key_table.proofs.lookups.choose.Statement.{statement}
 use Rattle.key_table.proofs.lookups.choose.Tie as tie
@@ -14,7 +14,7 @@ use Rattle.key_table.proofs.lookups.choose.Tie as tie
 abbrev Inv-loop : tie.InvT-loop
 Inv-loop keys owners n mixed s handles at₀ len₀ i₀ at len i =
     (len ≤ i) × (i ≤ n) × (length at ≡ 32)
-    × (chosenFrom mixed (parts s handles) n 0 owners keys ≡ take len at ++ chosenFrom mixed (parts s handles) n i owners keys)
+    × (chosenFrom mixed (partsIn s handles) n 0 owners keys ≡ take len at ++ chosenFrom mixed (partsIn s handles) n i owners keys)
 
 abbrev μ-loop : tie.MeasureT-loop
 μ-loop keys owners n mixed s handles at₀ len₀ i₀ at len i = n - i
@@ -47,7 +47,7 @@ loop-again : tie.Need-loop-again Inv-loop μ-loop
 loop-again c =
     let l = c .before .before .before in
     let a = l .before .before .before .before .before .args in
-    let hs = parts (now (a .s)) (a .handles) in
+    let hs = partsIn (now (a .s)) (a .handles) in
     let test = c .before .before .loop-test .taken in
     let own = c .before .row-is .ensures in
     let next = chosen-at (now (a .mixed)) hs _ _ (now (a .owners)) (now (a .keys)) test in
@@ -71,7 +71,7 @@ returns : tie.Need-returns Inv-loop μ-loop
 returns c =
     let l = c .before in
     let a = l .before .before .before .before .before .args in
-    let hs = parts (now (a .s)) (a .handles) in
+    let hs = partsIn (now (a .s)) (a .handles) in
     let rest = chosen-end (now (a .mixed)) hs _ _ (now (a .owners)) (now (a .keys)) (c .loop-test .left) in
     record { few = omega arith; rows-are = sym (l .loop .inv .3 ∙ rw (rest, append-nil)) }
 

@@ -1,6 +1,6 @@
 use borrow.Author.Needs.{needs}
 use denote.Ref.{now}
-use Rattle.tlv.specs.Spans.{parts}
+use Rattle.tlv.specs.Spans.{partsIn}
 use Rattle.key_table.specs.Views.{viewTable}
 use Rattle.key_table.proofs.LookupLaws.{chosen-places}
 use Rattle.key_table.proofs.lookups.chosen.Statement.{statement}
@@ -26,7 +26,7 @@ returns c =
     let keys = c .before .before .before in
     let owners = keys .before in
     let a = owners .before .before .before .args in
-    let hs = parts (now (a .s)) (a .handles) in
+    let hs = partsIn (now (a .s)) (a .handles) in
     rw (owners .column .ensures, keys .column2 .ensures, chosen-places (now (a .mixed)) hs 0 (viewTable (a .t))) at (c .choose .ensures)
 
 pub chosen-spec : {M : Type 1} → statement M

@@ -6,7 +6,7 @@ use native.Mathlib.Omega.{arith}
 use denote.Ref.{now}
 use lib.ListN.{length, drop, length-map}
 use Rattle.model.specs.Lists.{among, empty, eqBytes}
-use Rattle.tlv.specs.Spans.{parts}
+use Rattle.tlv.specs.Spans.{partsIn}
 use Rattle.columns.specs.Columns.{row}
 use Rattle.key_table.proofs.LookupLaws.{given-none, given-some, given-at, given-end}
 use Rattle.key_table.proofs.lookups.is_given.Statement.{statement}
@@ -14,7 +14,7 @@ use Rattle.key_table.proofs.lookups.is_given.Tie as tie
 
 abbrev Inv-loop : tie.InvT-loop
 Inv-loop keys i s handles n j₀ j =
-    let hs = parts s handles in
+    let hs = partsIn s handles in
     (j ≤ n) × (n ≡ handles .len) × ((empty hs || among (row i keys) hs) ≡ among (row i keys) (drop j hs))
 
 abbrev μ-loop : tie.MeasureT-loop
@@ -30,7 +30,7 @@ fits s =
 at-handle : (c : tie.After-row-is Inv-loop μ-loop) (b : Bool) → c .row-is .result ≡ b
     → let l = c .before .before .before .before in
     let a = l .before .before .before .before .args in
-    let hs = parts (now (a .s)) (a .t4) in
+    let hs = partsIn (now (a .s)) (a .t4) in
     let key = row (a .i) (now (a .keys)) in
     (empty hs || among key hs) ≡ (b || among key (drop (l .loop .j + 1) hs))
 at-handle c b e =

@@ -2,7 +2,7 @@ use mathlib.Core.Path.{_≡_}
 use denote.Ref.{now}
 use lib.ListN.{length, length-map}
 use borrow.Author.Needs.{needs}
-use Rattle.tlv.specs.Spans.{parts}
+use Rattle.tlv.specs.Spans.{partsIn}
 use Rattle.key_table.specs.Views.{viewTable}
 use Rattle.key_table.proofs.LookupLaws.{chosen-places, onlyHandle, only-inside, own-found}
 use Rattle.key_table.proofs.lookups.is_own.Statement.{statement}
@@ -32,7 +32,7 @@ returns c =
     let r = c .before .choose in
     let size : length (r .result .at) ≡ 32 = simp length-map at (r .ok .1 .1 .0 .1 .0 .1) in
     own-found (now (a .mixed)) k (viewTable (a .t)) _ size
-    (rw (owners .column .ensures, keys .column2 .ensures, chosen-places (now (a .mixed)) (parts k (onlyHandle k)) 0 (viewTable (a .t))) at (r .ensures))
+    (rw (owners .column .ensures, keys .column2 .ensures, chosen-places (now (a .mixed)) (partsIn k (onlyHandle k)) 0 (viewTable (a .t))) at (r .ensures))
 
 pub is-own-spec : {M : Type 1} → statement M
 is-own-spec =

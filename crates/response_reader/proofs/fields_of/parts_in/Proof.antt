@@ -7,7 +7,7 @@ use lib.ListN.{length}
 use Rattle.columns.specs.Firsts.{firsts}
 use Rattle.tlv.proofs.HeadLaws.{IsTlv, tlv-is}
 use Rattle.response_reader.proofs.MetLaws.{met-end, met-bad}
-use Rattle.response_reader.proofs.WalkLaws.{Listed, listed-start, listed-inner, listed-field, listed-all, listed-full}
+use Rattle.response_reader.proofs.ReadingLaws.{Listed, listed-start, listed-inner, listed-field, listed-all, listed-full}
 use Rattle.response_reader.proofs.fields_of.parts_in.Statement.{statement}
 use Rattle.response_reader.proofs.fields_of.parts_in.Tie as tie
 

@@ -3,7 +3,7 @@ use borrow.Author.Tests.{not-true, not-false}
 use native.Mathlib.Omega.{arith}
 use mathlib.Core.Path.{sym, _∙_}
 use Rattle.model.proofs.Refusals.{not-read}
-use Rattle.response_reader.proofs.WalkLaws.{response-length, read-fields}
+use Rattle.response_reader.proofs.ReadingLaws.{response-length, read-fields}
 use Rattle.response_reader.proofs.fields_of.read_fields.Statement.{statement}
 use Rattle.response_reader.proofs.fields_of.read_fields.Tie as tie
 

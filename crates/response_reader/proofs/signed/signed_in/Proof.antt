@@ -8,7 +8,7 @@ use lib.ListN.{length}
 use Rattle.tlv.proofs.HeadLaws.{IsTlv, tlv-is}
 use Rattle.response_reader.specs.Met.{signedMet}
 use Rattle.response_reader.proofs.MetLaws.{met-end, met-bad}
-use Rattle.response_reader.proofs.WalkLaws.{signedFrom, signed-start, signed-none, signed-here, signed-later}
+use Rattle.response_reader.proofs.ReadingLaws.{signedFrom, signed-start, signed-none, signed-here, signed-later}
 use Rattle.response_reader.proofs.signed.signed_in.Statement.{statement}
 use Rattle.response_reader.proofs.signed.signed_in.Tie as tie
 

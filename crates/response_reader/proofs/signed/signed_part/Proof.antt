@@ -2,7 +2,7 @@ use borrow.Author.Needs.{needs}
 use borrow.Author.Tests.{not-true, not-false}
 use mathlib.Core.Path.{refl, sym, _∙_}
 use Rattle.model.proofs.Refusals.{not-read}
-use Rattle.response_reader.proofs.WalkLaws.{signed-inside, read-signed}
+use Rattle.response_reader.proofs.ReadingLaws.{signed-inside, read-signed}
 use Rattle.response_reader.proofs.signed.signed_part.Statement.{statement}
 use Rattle.response_reader.proofs.signed.signed_part.Tie as tie
 
