@@ -7,6 +7,7 @@ ghost use Prim.Native.Nat.{_+_, _≤_};
 ghost use mathlib.Core.List.{[]};
 ghost use lib.ListN.{length};
 ghost use Rattle.model.specs.Tlv.{full, surrogate};
+ghost use Rattle.model.specs.Commands.{leastOutput};
 ghost use Rattle.model.specs.Complete.{completed};
 ghost use Rattle.tlv.specs.Writing.{Wrote};
 ghost use Rattle.assertion.specs.Completions.{completion, opening};
@@ -14,7 +15,7 @@ ghost use Rattle.assertion.specs.Completions.{completion, opening};
 // What stands before the draft: the response's header, status OK, and the headers of AUTHENTICATOR_ASSERTION and of the assertion, whose value
 // has n bytes.
 fn put_opening(out: &mut [u8], response: usize, assertion: usize, n: usize) -> usize
-    requires { ⌜ (18 ≤ length (now out)) × (n ≤ 4096) ⌝ }
+    requires { ⌜ (18 ≤ length (now out)) × (n ≤ leastOutput) ⌝ }
     ensures { λ r. ⌜ Wrote (now (out .entry)) 0 (opening response assertion n) 18 (now (out .exit)) r ⌝ }
 {
     let a1 = put_header(out, 0, response, n + 14);
@@ -25,7 +26,7 @@ fn put_opening(out: &mut [u8], response: usize, assertion: usize, n: usize) -> u
 
 // The response to a Sign.
 pub fn put_sign(out: &mut [u8], draft: &[u8], signature: &[u8]) -> usize
-    requires { ⌜ (22 + (length (now draft) + length (now signature)) ≤ 4096) × (4096 ≤ length (now out)) ⌝ }
+    requires { ⌜ (22 + (length (now draft) + length (now signature)) ≤ leastOutput) × (leastOutput ≤ length (now out)) ⌝ }
     ensures { λ r. ⌜ Wrote (now (out .entry)) 0 (completed (completion 1 (now (draft .entry)) 0 (now (signature .entry)) [] 0)) r (now (out .exit)) r ⌝ }
 {
     let a1 = put_opening(
@@ -40,7 +41,7 @@ pub fn put_sign(out: &mut [u8], draft: &[u8], signature: &[u8]) -> usize
 
 // The response to a Register with full attestation: the certificate stands after the signature.
 pub fn put_full(out: &mut [u8], draft: &[u8], signature: &[u8], certificate: &[u8]) -> usize
-    requires { ⌜ (30 + (length (now draft) + (length (now signature) + length (now certificate))) ≤ 4096) × (4096 ≤ length (now out)) ⌝ }
+    requires { ⌜ (30 + (length (now draft) + (length (now signature) + length (now certificate))) ≤ leastOutput) × (leastOutput ≤ length (now out)) ⌝ }
     ensures { λ r. ⌜ Wrote (now (out .entry)) 0 (completed (completion 0 (now (draft .entry)) full (now (signature .entry)) (now (certificate .entry)) 0)) r (now (out .exit)) r ⌝ }
 {
     let n = 4 + signature.len() + (4 + certificate.len());
@@ -58,7 +59,7 @@ pub fn put_full(out: &mut [u8], draft: &[u8], signature: &[u8], certificate: &[u
 
 // The response to a Register with surrogate attestation.
 pub fn put_surrogate(out: &mut [u8], draft: &[u8], signature: &[u8]) -> usize
-    requires { ⌜ (26 + (length (now draft) + length (now signature)) ≤ 4096) × (4096 ≤ length (now out)) ⌝ }
+    requires { ⌜ (26 + (length (now draft) + length (now signature)) ≤ leastOutput) × (leastOutput ≤ length (now out)) ⌝ }
     ensures { λ r. ⌜ Wrote (now (out .entry)) 0 (completed (completion 0 (now (draft .entry)) surrogate (now (signature .entry)) [] 0)) r (now (out .exit)) r ⌝ }
 {
     let n = 4 + signature.len();
