@@ -10,21 +10,21 @@ use tlv::numbers::get16;
 ghost use mathlib.Core.Path.{_≡_};
 ghost use mathlib.Core.Bool.{true, false, _||_};
 ghost use mathlib.Core.List.{[], _∷_};
-ghost use Rattle.model.specs.Tlv.{signature, certificate, full, surrogate};
+ghost use Rattle.model.specs.Tlv.{statusAmong, signature, certificate, full, surrogate};
 ghost use Rattle.model.specs.Layouts.{end, field, group, fields, reads};
 ghost use Rattle.model.specs.Commands.{info};
 ghost use Rattle.model.specs.Reader.{registered, signed, isResponse};
-ghost use Rattle.fields.specs.Fields.{named};
+ghost use Rattle.fields.specs.Fields.{statusesIn};
 ghost use Rattle.layouts.specs.Places.{readsAt, afterGroup};
 ghost use Rattle.layouts.specs.Groups.{groupTag, groupInside};
 ghost use Rattle.response_reader.specs.Responses.{inAssertion};
 
-// A response that holds a status only.
-fn is_status(s: &[u8], tag: usize, status: Field) -> bool
-    ensures { λ r. ⌜ r ≡ reads (group tag (field (named status) end) end) (now (s .entry)) ⌝ }
+// A response that holds a status only, which is one of these.
+fn is_status(s: &[u8], tag: usize, which: Statuses) -> bool
+    ensures { λ r. ⌜ r ≡ reads (group tag (field (statusAmong (statusesIn which)) end) end) (now (s .entry)) ⌝ }
 {
     let a = enter(s, 0, tag);
-    let end = after(s, a, status);
+    let end = after(s, a, Field::Status(which));
     end == s.len()
 }
 
@@ -120,27 +120,19 @@ pub fn is_response(s: &[u8]) -> bool
     let tag = get16(s, 0);
     match tag {
         tags::GETINFO_CMD_RESPONSE => {
-            if is_status(
-                s,
-                tags::GETINFO_CMD_RESPONSE,
-                Field::Status(Statuses::OfGetInfo),
-            ) {
+            if is_status(s, tags::GETINFO_CMD_RESPONSE, Statuses::OfGetInfo) {
                 return true;
             }
             is_info(s)
         }
         tags::REGISTER_CMD_RESPONSE => {
-            if is_status(
-                s,
-                tags::REGISTER_CMD_RESPONSE,
-                Field::Status(Statuses::OfRegister),
-            ) {
+            if is_status(s, tags::REGISTER_CMD_RESPONSE, Statuses::OfRegister) {
                 return true;
             }
             is_registered(s)
         }
         tags::SIGN_CMD_RESPONSE => {
-            if is_status(s, tags::SIGN_CMD_RESPONSE, Field::Status(Statuses::OfSign)) {
+            if is_status(s, tags::SIGN_CMD_RESPONSE, Statuses::OfSign) {
                 return true;
             }
             if is_signed(s) {
@@ -151,12 +143,12 @@ pub fn is_response(s: &[u8]) -> bool
         tags::DEREGISTER_CMD_RESPONSE => is_status(
             s,
             tags::DEREGISTER_CMD_RESPONSE,
-            Field::Status(Statuses::OfDeregister),
+            Statuses::OfDeregister,
         ),
         tags::OPEN_SETTINGS_CMD_RESPONSE => is_status(
             s,
             tags::OPEN_SETTINGS_CMD_RESPONSE,
-            Field::Status(Statuses::OfOpenSettings),
+            Statuses::OfOpenSettings,
         ),
         _ => false,
     }
