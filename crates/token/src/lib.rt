@@ -106,8 +106,7 @@ pub extern "C" fn uaf_command(
     match outcome {
         Outcome::Refused(r) => number_of(r),
         Outcome::Gave(a) => {
-            let left = ran.table;
-            *table_len = write_table(table_out, left);
+            *table_len = write_table(table_out, ran.table);
             tell(a, answer, response_len);
             0
         }

@@ -49,11 +49,11 @@ enum-known-outcome-2 c = search needs
 
 write-table-requires : tie.Need-write-table-requires
 write-table-requires c κs =
-    let s = c .before .before .before .before .before .before .before in
+    let s = c .before .before .before .before .before .before in
     let b = s .before .before .before .before .before in
     let e = read-is _ (b .read-table .ensures) (not-false _ (s .before .before .before .if3 .left)) in
     let g = entry-given _ _ _ _ _ (b .before .before .if1 .left) (b .before .if2 .left) e (s .serve .ensures) in
-    (left-ok g _ (c .before .before .before .outcome2 .given .1) _ _ refl, search needs)
+    (left-ok g _ (c .before .before .outcome2 .given .1) _ _ refl, search needs)
 
 tell-requires : tie.Need-tell-requires
 tell-requires c κs = search needs
@@ -77,11 +77,11 @@ same-length-3 c = search needs
 
 returns-5 : tie.Need-returns-5
 returns-5 c =
-    let s = c .before .before .before .before .before .before .before .before .before .before .before .before .before in
+    let s = c .before .before .before .before .before .before .before .before .before .before .before .before in
     let b = s .before .before .before .before .before in
     let e = read-is _ (b .read-table .ensures) (not-false _ (s .before .before .before .if3 .left)) in
     let g = entry-given _ _ _ _ _ (b .before .before .if1 .left) (b .before .if2 .left) e (s .serve .ensures) in
-    rw (c .tell .ensures .0, c .tell .ensures .1) (entry-gives g _ (c .before .before .before .before .before .before .before .before .before .outcome2 .given .1) _ _ _ _ (c .before .before .before .before .before .write-table .ensures))
+    rw (c .tell .ensures .0, c .tell .ensures .1) (entry-gives g _ (c .before .before .before .before .before .before .before .before .outcome2 .given .1) _ _ _ _ (c .before .before .before .before .before .write-table .ensures))
 
 pub uaf-command-spec : {M : Type 1} → statement M
 uaf-command-spec =
