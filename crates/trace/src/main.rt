@@ -1,13 +1,7 @@
 // Runs the calls of a script on the C entries and writes what each gives. A line of the script is a letter, a space and bytes in
 // hexadecimal, which sets an argument until it is set again; '!', a space and a name run a command, and '?' does so and writes the table
-// left; '=' completes a draft; '<' reads a response, and '^' changes a byte of it. Other lines are comments. After a command that is not refused the table left is the table
-// of the next, and a completed response is the next one read.
-mod assertions;
-mod commands;
-
-use crate::assertions::complete;
-use crate::assertions::read;
-use crate::commands::run;
+// left; '=' completes a draft; '<' reads a response, and '^' changes a byte of it. Other lines are comments. After a command that is not
+// refused the table left is the table of the next, and a completed response is the next one read.
 use script::slots::MOST;
 use script::slots::READ;
 use script::slots::SIZE;
@@ -16,6 +10,9 @@ use script::slots::slot_of;
 use script::slots::store;
 use script::text::read_hex;
 use tlv::numbers::get16;
+use trace_assertions::complete;
+use trace_assertions::read;
+use trace_commands::run;
 ghost use Prim.Native.Nat.{_+_, _≤_, _<_};
 ghost use lib.ListN.{length};
 
@@ -37,33 +34,21 @@ fn change(text: &[u8], mem: &mut [u8]) {
     mem[at] = v[2];
 }
 
+// Does what one line says.
 fn obey(line: &[u8], mem: &mut [u8]) {
     if line.len() < 2 {
         return;
     }
     let letter = line[0];
     let rest = &line[2..];
-    if letter == b'!' {
-        run(rest, false, mem);
-        return;
+    match letter {
+        b'!' => run(rest, false, mem),
+        b'?' => run(rest, true, mem),
+        b'=' => complete(rest, mem),
+        b'<' => read(rest, mem),
+        b'^' => change(rest, mem),
+        _ => set(rest, slot_of(letter), mem),
     }
-    if letter == b'?' {
-        run(rest, true, mem);
-        return;
-    }
-    if letter == b'=' {
-        complete(rest, mem);
-        return;
-    }
-    if letter == b'<' {
-        read(rest, mem);
-        return;
-    }
-    if letter == b'^' {
-        change(rest, mem);
-        return;
-    }
-    set(rest, slot_of(letter), mem);
 }
 
 // Obeys the line that ends at a place, if one does; where the next line starts.
@@ -78,6 +63,7 @@ fn obey_at(s: &[u8], start: usize, i: usize, mem: &mut [u8]) -> usize
     i + 1
 }
 
+// Does what each line says, the last also without its newline.
 fn obey_all(s: &[u8], mem: &mut [u8]) {
     let mut start = 0;
     let mut i = 0;
@@ -88,6 +74,7 @@ fn obey_all(s: &[u8], mem: &mut [u8]) {
     obey(&s[start..], mem);
 }
 
+// The script is read from standard input, whole.
 fn main() {
     let mut text = [0u8; 262144];
     let n = io::read_full(0, &mut text);

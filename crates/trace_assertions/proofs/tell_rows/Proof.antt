@@ -1,7 +1,7 @@
 use Prim.Native.Nat.{_-_, _≤_}
 use borrow.Author.Needs.{needs}
-use Rattle.trace.proofs.assertions.tell_rows.Statement.{statement}
-use Rattle.trace.proofs.assertions.tell_rows.Tie as tie
+use Rattle.trace_assertions.proofs.tell_rows.Statement.{statement}
+use Rattle.trace_assertions.proofs.tell_rows.Tie as tie
 
 abbrev Inv-loop : tie.InvT-loop
 Inv-loop l i₀ t4 i = i ≤ 17

@@ -1,4 +1,4 @@
-// Calls of `uaf_command`.
+// Calls of `uaf_command`: one from the arguments in the slots, and the line that says what it gave.
 use script::slots::AAID;
 use script::slots::COMMAND;
 use script::slots::DISPLAY;
@@ -35,6 +35,7 @@ struct Given {
     table_len: usize,
 }
 
+// Calls with the arguments in the slots and two outputs.
 fn call(mem: &[u8], response: &mut [u8], table_out: &mut [u8]) -> Given {
     let version = number(mem, VERSION) as u16;
     let signature_algorithm = number(mem, SIGNATURE_ALGORITHM) as u16;
@@ -84,6 +85,7 @@ fn tell_refusal(g: Given, response: &[u8], table_out: &[u8]) {
     write_next(adler(table_out));
 }
 
+// Says what the response output holds, by the number that the call gave.
 fn write_kind(answer: u32) {
     match answer {
         0 => io::write_all(1, b"response"),
@@ -93,7 +95,7 @@ fn write_kind(answer: u32) {
     ;
 }
 
-// Says what any other wrote.
+// Says what a call that is not refused wrote.
 fn tell_answer(g: Given, response: &[u8], table_out: &[u8], dump: bool) {
     write_kind(g.answer);
     write_written(response, g.response_len, true);
@@ -131,6 +133,7 @@ fn run_in(name: &[u8], dump: bool, mem: &mut [u8], response: &mut [u8], table_ou
     store(&table_out[0..m], g.table_len, TABLE, mem);
 }
 
+// Runs a command with outputs of its own, and keeps the table that it left for the next.
 pub fn run(name: &[u8], dump: bool, mem: &mut [u8]) {
     let mut response = [FILL; MOST];
     let mut table_out = [FILL; MOST];

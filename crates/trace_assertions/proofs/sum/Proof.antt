@@ -1,7 +1,7 @@
 use Prim.Native.Nat.{_-_, _≤_, _<_}
 use borrow.Author.Needs.{needs}
-use Rattle.trace.proofs.assertions.sum.Statement.{statement}
-use Rattle.trace.proofs.assertions.sum.Tie as tie
+use Rattle.trace_assertions.proofs.sum.Statement.{statement}
+use Rattle.trace_assertions.proofs.sum.Tie as tie
 
 abbrev Inv-loop : tie.InvT-loop
 Inv-loop rows n₀ i₀ n i = (i ≤ 17) × (n < 65521)

@@ -1,4 +1,4 @@
-// Completions, and both calls of the reader.
+// Completions, and both calls of the reader: one from the arguments in the slots, and the line that says what it gave.
 use response_reader::fields_of::MOST_FIELDS;
 use response_reader::signed::signed_part;
 use script::slots::CERTIFICATE;
@@ -35,7 +35,7 @@ fn tell_completed(code: u32, len: usize, response: &[u8]) {
     write_written(response, len, true);
 }
 
-// The output is the first bytes of a stretch.
+// Completes a draft, writes its line and keeps the response. The output is the first bytes of a stretch.
 fn complete_in(name: &[u8], mem: &mut [u8], response: &mut [u8]) {
     let n = number(mem, RESPONSE_LENGTH);
     if response.len() < n {
@@ -63,6 +63,7 @@ fn complete_in(name: &[u8], mem: &mut [u8], response: &mut [u8]) {
     store(&response[0..n], len, READ, mem);
 }
 
+// Completes a draft into an output of its own, writes its line and keeps the response to be read.
 pub fn complete(name: &[u8], mem: &mut [u8]) {
     let mut response = [FILL; MOST];
     complete_in(name, mem, &mut response);
@@ -79,6 +80,7 @@ struct Listed {
     lengths: [usize; MOST_FIELDS],
 }
 
+// The second call.
 fn list(s: &[u8]) -> Listed {
     let mut tag = UNSET;
     let mut status = UNSET;
@@ -117,6 +119,7 @@ fn sum(rows: [usize; MOST_FIELDS]) -> usize {
     n
 }
 
+// After a refusal a sum of each column.
 fn tell_sums(l: Listed) {
     let tags = l.tags;
     let places = l.places;
@@ -138,6 +141,7 @@ fn tell_rows(l: Listed) {
     }
 }
 
+// Says what the second call gave.
 fn tell_listed(l: Listed) {
     io::write_all(1, b" list");
     write_next(l.code as usize);
@@ -161,6 +165,7 @@ struct Pointed {
     part_sum: usize,
 }
 
+// The first call.
 fn point(s: &[u8]) -> Pointed {
     let mut place = UNSET;
     let mut length = UNSET;
@@ -177,6 +182,7 @@ fn point(s: &[u8]) -> Pointed {
     }
 }
 
+// Says what the first call gave.
 fn tell_pointed(g: Pointed) {
     io::write_all(1, b"signed");
     write_next(g.code as usize);
@@ -188,6 +194,7 @@ fn tell_pointed(g: Pointed) {
     write_next(g.part_sum);
 }
 
+// Reads a response by both calls and writes one line.
 pub fn read(name: &[u8], mem: &[u8]) {
     let s = arg(mem, READ);
     io::write_all(1, name);
