@@ -176,60 +176,74 @@ def call(lent):
     return 0, kind, answer, store(table)
 
 
-def perform(lent, table):
-    command = lent["command"]
-    tag = int.from_bytes(command[:2], "little")
+def alone(tag, code):
+    """A status alone."""
+    return 0, tlv(tag + 0x200, tlv(STATUS_CODE, code.to_bytes(2, "little")))
 
-    def status(code):
-        return 0, tlv(tag + 0x200, tlv(STATUS_CODE, code.to_bytes(2, "little")))
 
-    given = fields(command)
-    if given is None:
-        return status(0x08)
-    mine = [r for r in table if r["mixed"] == lent["mixed"]]
-    if tag == GETINFO:
-        info = tlv(INDEX, b"\0") + tlv(AAID, lent["aaid"]) + tlv(METADATA, lent["metadata"]) + tlv(CONTENT_TYPE, b"text/plain")
-        info += tlv(ASSERTION_SCHEME, b"UAFV1TLV") + tlv(ATTESTATION_TYPE, b"\x07\x3e") + tlv(ATTESTATION_TYPE, b"\x08\x3e")
-        return 0, tlv(0x3601, tlv(STATUS_CODE, b"\0\0") + tlv(API_VERSION, b"\x01") + tlv(AUTHENTICATOR_INFO, info))
-    if tag == OPEN_SETTINGS:
-        return status(0x06)
-    if tag == DEREGISTER:
-        key = given[KEYID][0]
-        gone = [r for r in mine if not key or r["key"] == key]
-        if key and not gone:
-            return status(0x02)
-        table[:] = [r for r in table if r not in gone]
-        return status(0x00)
-    if lent["verdict"]:
-        return status(VERDICT[lent["verdict"]])
-    profile = tlv(AAID, lent["aaid"])
-    version = lent["version"].to_bytes(2, "little")
-    signature = lent["signature_algorithm"].to_bytes(2, "little")
-    if tag == REGISTER:
-        if int.from_bytes(given[ATTESTATION_TYPE][0], "little") not in (BASIC_FULL, BASIC_SURROGATE):
-            return status(0x07)
-        if any(r["key"] == lent["key"] for r in table):
-            return status(0x01)
-        if len(mine) >= 8 or len(table) >= 32:
-            return status(0x0F)
-        table.append({"key": lent["key"], "mixed": lent["mixed"], "name": given[USERNAME][0], "count": 0})
-        info = version + b"\x01" + signature + lent["key_algorithm"].to_bytes(2, "little")
-        krd = profile + tlv(ASSERTION_INFO, info) + tlv(CHALLENGE, given[CHALLENGE][0]) + tlv(KEYID, lent["key"])
-        return 1, tlv(KRD, krd + tlv(COUNTERS, bytes(8)) + tlv(PUB_KEY, lent["public"]))
+def get_info(lent):
+    info = tlv(INDEX, b"\0") + tlv(AAID, lent["aaid"]) + tlv(METADATA, lent["metadata"]) + tlv(CONTENT_TYPE, b"text/plain")
+    info += tlv(ASSERTION_SCHEME, b"UAFV1TLV") + tlv(ATTESTATION_TYPE, b"\x07\x3e") + tlv(ATTESTATION_TYPE, b"\x08\x3e")
+    return 0, tlv(0x3601, tlv(STATUS_CODE, b"\0\0") + tlv(API_VERSION, b"\x01") + tlv(AUTHENTICATOR_INFO, info))
+
+
+def register(lent, given, table, mine):
+    if int.from_bytes(given[ATTESTATION_TYPE][0], "little") not in (BASIC_FULL, BASIC_SURROGATE):
+        return alone(REGISTER, 0x07)
+    if any(r["key"] == lent["key"] for r in table):
+        return alone(REGISTER, 0x01)
+    if len(mine) >= 8 or len(table) >= 32:
+        return alone(REGISTER, 0x0F)
+    table.append({"key": lent["key"], "mixed": lent["mixed"], "name": given[USERNAME][0], "count": 0})
+    info = lent["version"].to_bytes(2, "little") + b"\x01" + lent["signature_algorithm"].to_bytes(2, "little")
+    info += lent["key_algorithm"].to_bytes(2, "little")
+    krd = tlv(AAID, lent["aaid"]) + tlv(ASSERTION_INFO, info) + tlv(CHALLENGE, given[CHALLENGE][0]) + tlv(KEYID, lent["key"])
+    return 1, tlv(KRD, krd + tlv(COUNTERS, bytes(8)) + tlv(PUB_KEY, lent["public"]))
+
+
+def sign(lent, given, mine):
     handles = given.get(KEYHANDLE, [])
     chosen = [r for r in mine if not handles or r["key"] in handles]
     if not chosen:
-        return status(0x02)
+        return alone(SIGN, 0x02)
     if len(chosen) > 1:
         names = b"".join(tlv(USERNAME_AND_KEYHANDLE, tlv(USERNAME, r["name"]) + tlv(KEYHANDLE, r["key"])) for r in chosen)
         return 0, tlv(0x3603, tlv(STATUS_CODE, b"\0\0") + names)
     record = chosen[0]
     content = given.get(TRANSACTION_CONTENT, [b""])[0] != b""
     if content and lent["display"]:
-        return status(DISPLAY[lent["display"]])
+        return alone(SIGN, DISPLAY[lent["display"]])
     if record["count"] == 4294967295:
-        return status(0x01)
+        return alone(SIGN, 0x01)
     record["count"] += 1
-    data = profile + tlv(ASSERTION_INFO, version + (b"\x02" if content else b"\x01") + signature) + tlv(NONCE, lent["nonce"])
-    data += tlv(CHALLENGE, given[CHALLENGE][0]) + tlv(CONTENT_HASH, lent["hash"] if content else b"")
-    return 1, tlv(SIGNED_DATA, data + tlv(KEYID, record["key"]) + tlv(COUNTERS, record["count"].to_bytes(4, "little")))
+    info = lent["version"].to_bytes(2, "little") + (b"\x02" if content else b"\x01") + lent["signature_algorithm"].to_bytes(2, "little")
+    data = tlv(AAID, lent["aaid"]) + tlv(ASSERTION_INFO, info) + tlv(NONCE, lent["nonce"]) + tlv(CHALLENGE, given[CHALLENGE][0])
+    data += tlv(CONTENT_HASH, lent["hash"] if content else b"") + tlv(KEYID, record["key"])
+    return 1, tlv(SIGNED_DATA, data + tlv(COUNTERS, record["count"].to_bytes(4, "little")))
+
+
+def deregister(given, table, mine):
+    key = given[KEYID][0]
+    gone = [r for r in mine if not key or r["key"] == key]
+    if key and not gone:
+        return alone(DEREGISTER, 0x02)
+    table[:] = [r for r in table if r not in gone]
+    return alone(DEREGISTER, 0x00)
+
+
+def perform(lent, table):
+    """What a command that is not refused writes, and its kind; the table is changed in place."""
+    tag = int.from_bytes(lent["command"][:2], "little")
+    given = fields(lent["command"])
+    if given is None:
+        return alone(tag, 0x08)
+    mine = [r for r in table if r["mixed"] == lent["mixed"]]
+    if tag == GETINFO:
+        return get_info(lent)
+    if tag == OPEN_SETTINGS:
+        return alone(tag, 0x06)
+    if tag == DEREGISTER:
+        return deregister(given, table, mine)
+    if lent["verdict"]:
+        return alone(tag, VERDICT[lent["verdict"]])
+    return register(lent, given, table, mine) if tag == REGISTER else sign(lent, given, mine)

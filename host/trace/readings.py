@@ -120,7 +120,7 @@ def fixed(data):
             yield place + 2
 
 
-def readings(t):
+def statuses(t):
     t.say("Read a response: every status alone")
     for tag, codes in STATUSES.items():
         for code in range(0x12):
@@ -131,6 +131,9 @@ def readings(t):
     t.read("a command", bytes.fromhex("01340000"))
     for n in range(4):
         t.read(f"{n} bytes", b"\x04\x36\x00"[:n])
+
+
+def lists(t):
     t.say("Lists of names")
     for n in range(10):
         assert (t.read(f"{n} names", listed(n)) == 0) == (2 <= n <= 8)
@@ -147,6 +150,9 @@ def readings(t):
         keys = [bytes([i]) * 32 for i in range(8)]
         keys[j] = keys[i]
         t.read(f"eight names, KeyIDs {i} and {j} equal", names(*((b"Ann", k) for k in keys)))
+
+
+def assertions(t):
     t.say("Assertions that are well formed and that no completion writes")
     for kind, what, draft in bad_drafts():
         assert t.read(f"kind {kind}, {what}", asserted(kind, draft, tlv(SIGNATURE, b"\1") if kind else tlv(BASIC_SURROGATE, tlv(SIGNATURE, b"\1"))))
@@ -159,20 +165,35 @@ def readings(t):
         t.read(f"assertion, {what}", asserted(0, krd(), sealed))
     for size in (0, 1, 512, 513):
         t.read(f"assertion, sign, signature of {size}", asserted(1, signed_data(), tlv(SIGNATURE, bytes(size))))
-    t.say("One byte changed, in each header and fixed byte")
+
+
+def samples():
+    """A response of each shape."""
     lent = {"command": bytes.fromhex("01340000"), "aaid": PROFILE, "metadata": bytes(range(1, 16)), "mixed": b""}
-    samples = {
+    return {
         "info": perform(lent, [])[1], "status": status(0x3604, 2), "names": listed(2), "full": complete(**REGISTRATION)[1],
         "surrogate": complete(**SURROGATE)[1], "sign": complete(**SIGN)[1], "content": complete(**CONTENT)[1],
     }
-    for what, data in samples.items():
+
+
+def changes(t):
+    t.say("One byte changed, in each header and fixed byte")
+    for what, data in samples().items():
         assert t.read(what, data) == 0
         for place in fixed(data):
             assert t.read_changed(f"{what}, byte {place}", data, place, data[place] ^ 1), (what, place)
         t.read(f"{what}, a byte more", data + b"\0")
         t.read(f"{what}, a byte less", data[:-1])
         t.read(f"{what}, twice", data * 2)
+
+
+def drafts(t):
     t.say("Drafts are no responses, and a refusal is none")
     t.read("a registration draft", krd())
     t.read("a sign draft", signed_data())
-    t.read("KRD in a sign response", samples["full"].replace(b"\x02\x36", b"\x03\x36", 1))
+    t.read("KRD in a sign response", complete(**REGISTRATION)[1].replace(b"\x02\x36", b"\x03\x36", 1))
+
+
+def readings(t):
+    for part in (statuses, lists, assertions, changes, drafts):
+        part(t)

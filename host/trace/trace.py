@@ -1,46 +1,17 @@
-"""Writes the script of crates/trace (its stdin) and what it must print (its stdout), worked out by paper.py.
+"""Writes the script of crates/trace (its stdin) and what it must print (its stdout), worked out by paper.py and responses.py.
 
     python3 host/trace/trace.py
 
 Each call's name says what document 01 has it show."""
 
 import os
-import zlib
 
 from paper import (
     ACCESS_TOKEN, APPID, ATTESTATION_TYPE, CHALLENGE, COUNTERS, DEREGISTER, GETINFO, INDEX, KEYHANDLE, KEYID, OPEN_SETTINGS,
-    REGISTER, SIGN, TRANSACTION_CONTENT, USERNAME, USERNAME_AND_KEYHANDLE, USERVERIFY_TOKEN, call, load, store, tlv,
+    REGISTER, SIGN, TRANSACTION_CONTENT, USERNAME, USERNAME_AND_KEYHANDLE, USERVERIFY_TOKEN, load, store, tlv,
 )
 from readings import completions, readings
-from responses import complete, read
-
-LETTERS = {
-    "command": "c", "aaid": "a", "version": "v", "signature_algorithm": "s", "key_algorithm": "g", "metadata": "m",
-    "verdict": "u", "display": "d", "mixed": "x", "key": "k", "public": "p", "nonce": "n", "hash": "h", "table": "t",
-    "response": "o", "table_output": "w",
-}
-ONE_BYTE = ("verdict", "display")
-FILL, UNSET = b"\xee", 77  # what an output and a number hold before a call
-SEAL_LETTERS = {"kind": "j", "draft": "q", "attestation": "y", "signature": "z", "certificate": "e", "output": "o"}
-
-ANN, BO, CY = (bytes([x]) * 32 for x in (0xA0, 0xB0, 0xC0))  # mixed tokens
-USUAL = {
-    "command": b"",
-    "aaid": b"4A4F#0001",
-    "version": 0x0102,
-    "signature_algorithm": 0x0304,
-    "key_algorithm": 0x0506,
-    "metadata": bytes(range(0x30, 0x3F)),
-    "verdict": 0,
-    "display": 0,
-    "mixed": ANN,
-    "key": bytes(32),
-    "public": bytes(range(1, 66)),
-    "nonce": bytes(range(0x80, 0x90)),
-    "hash": bytes(range(0xC0, 0xE0)),
-    "response": 4096,
-    "table_output": 6912,
-}
+from script import ANN, BO, CY, Trace
 
 
 def key(n):
@@ -80,84 +51,6 @@ def nested(level, value=b""):
     return value
 
 
-def written(data, size, whole):
-    """What the program says of an output of this size after data was written into it."""
-    line = f"{len(data)} {zlib.adler32(data)} {zlib.adler32(FILL * (size - len(data)))}"
-    return line + (" " + data.hex().upper() if whole else "")
-
-
-class Trace:
-    def __init__(self):
-        self.script, self.expected, self.set, self.table = [], [], {}, b""
-
-    def say(self, text):
-        self.script.append("# " + text)
-
-    def give(self, table):
-        """Hands the next call this table."""
-        self.table = table if isinstance(table, bytes) else store(table)
-
-    def run(self, name, command, dump=False, **lent):
-        lent = {**USUAL, **lent, "command": command, "table": self.table}
-        for what, letter in LETTERS.items():
-            self.lend(letter, lent[what], 1 if what in ONE_BYTE else 2)
-        self.script.append(("? " if dump else "! ") + name)
-        code, kind, answer, left = call(lent)
-        if code:
-            sums = f"{zlib.adler32(FILL * lent['response'])} {zlib.adler32(FILL * lent['table_output'])}"
-            self.expected.append(f"{name}: refusal {code} {UNSET} {UNSET} {UNSET} {sums}")
-            return
-        line = f"{name}: {'draft' if kind else 'response'} {written(answer, lent['response'], True)}"
-        self.expected.append(f"{line} table {written(left, lent['table_output'], dump)}")
-        self.table = self.set["t"] = left
-        return answer
-
-    def lend(self, letter, value, size=2):
-        """Sets an argument, if it is not so already."""
-        if isinstance(value, int):
-            value = value.to_bytes(size, "little")
-        if self.set.get(letter) != value:
-            self.set[letter] = value
-            self.script.append(letter + " " + value.hex().upper())
-
-    def complete(self, name, **lent):
-        for what, letter in SEAL_LETTERS.items():
-            self.lend(letter, lent[what])
-        self.script.append("= " + name)
-        code, response = complete(**lent)
-        if code:
-            self.expected.append(f"{name}: refusal {code} {UNSET} {zlib.adler32(FILL * lent['output'])}")
-        else:
-            self.expected.append(f"{name}: completed {written(response, lent['output'], True)}")
-            self.set["r"] = response
-        return response
-
-    def tell_read(self, name, data):
-        self.script.append("< " + name)
-        code, signed, tag, status, fields = read(data)
-        if code:
-            unset = " ".join([str(UNSET)] * 3 + [str(17 * UNSET)] * 3)
-            self.expected.append(f"{name}: signed {code} {UNSET} {UNSET} part {code} 0 1 list {code} {unset}")
-            return code
-        place, size = signed
-        line = f"{name}: signed 0 {place} {size} part 0 {size} {zlib.adler32(data[place : place + size])}"
-        line += f" list 0 {tag} {status} {len(fields)}"
-        self.expected.append(line + "".join(f"; {t} {p} {n}" for t, p, n in fields + [(0, 0, 0)] * (17 - len(fields))))
-        return code
-
-    def read(self, name, data):
-        self.lend("r", data)
-        return self.tell_read(name, data)
-
-    def read_changed(self, name, data, place, byte):
-        """Reads a response with one byte changed."""
-        self.lend("r", data)
-        self.script.append(f"^ {place.to_bytes(2, 'little').hex().upper()}{byte:02X}")
-        code = self.tell_read(name, data[:place] + bytes([byte]) + data[place + 1 :])
-        self.script.append(f"^ {place.to_bytes(2, 'little').hex().upper()}{data[place]:02X}")
-        return code
-
-
 def examples(t):
     t.say("P1 to P9")
     t.give([])
@@ -193,7 +86,7 @@ def get_info(t):
     t.run("info, 8193 bytes", command(GETINFO, tlv(0x0FFF, bytes(8185))))
 
 
-def registrations(t):
+def registration_statuses(t):
     t.say("Register: each status in its order")
     t.give([])
     for verdict in range(1, 6):
@@ -206,6 +99,9 @@ def registrations(t):
     t.run("register, type before a stored KeyID", register(kind=other), key=key(1))
     t.run("register, KeyID stored", register(), key=key(1))
     t.run("register, KeyID stored by another", register(), key=key(1), mixed=BO)
+
+
+def registration_fields(t):
     t.run("register, surrogate", register(kind=tlv(ATTESTATION_TYPE, b"\x08\x3E")), key=key(2))
     t.run("register, name of 128", register(b"n" * 128), key=key(3))
     t.run("register, name of 129", register(b"n" * 129), key=key(4))
@@ -225,6 +121,9 @@ def registrations(t):
     for size in (1, 3):
         t.run(f"register, attestation type of {size}", register(kind=tlv(ATTESTATION_TYPE, bytes(size))), key=key(7))
     t.run("register, children in another order", command(REGISTER, TOKEN_1, FULL, tlv(USERNAME, b"A"), HASH_1, INDEX_0), key=key(7))
+
+
+def registration_limits(t):
     t.run("register, public key of 1", register(), key=key(8), public=b"\x07", mixed=BO)
     t.run("register, public key of 512", register(), key=key(9), public=bytes(512), mixed=BO)
     t.run("register, eighth own", register(b"eight"), key=key(10))
@@ -236,6 +135,13 @@ def registrations(t):
     t.run("register, thirty-third with a stored KeyID", register(), key=key(100), mixed=CY)
     t.run("deregister, one of a full table", deregister(key(1)))
     t.run("register, a place free again", register(b"again"), key=key(200), mixed=CY)
+
+
+def registrations(t):
+    """One table from the first record to the thirty-second: each part goes on with what the one before it left."""
+    registration_statuses(t)
+    registration_fields(t)
+    registration_limits(t)
 
 
 def signatures(t):
