@@ -18,7 +18,7 @@ extern "C" {
 #define UAF_LEAST_RESPONSE 4096
 #define UAF_LEAST_TABLE 6912
 
-/* Refusals. After one of them nothing that the caller lent has changed. */
+/* Refusals. After one of them no output, number or array that the caller lent has changed. */
 #define UAF_REFUSED_OUTPUT 1  /* an output is too short */
 #define UAF_REFUSED_TABLE 2   /* the stored table breaks a rule */
 #define UAF_REFUSED_COMMAND 3 /* fewer than 4 bytes, or none of the five commands */
@@ -44,7 +44,7 @@ extern "C" {
 #define UAF_DRAFT 1
 
 /* Runs GetInfo, Register, Sign, Deregister or Open settings on a table in its stored form; the table before the first call has length 0.
- * Gives 0 or a refusal.
+ * Gives 0 or a refusal: 1, then 2, 3, 4.
  *
  * Lent are the profile (AAID of 9 bytes, version and algorithms, metadata of 15 bytes), the verdict, the display's result, the mixed token
  * (32 bytes), a new KeyID (32) with its public key (1 to 512), a nonce (8 to 32) and the hash of the transaction content (32). A command
