@@ -1,7 +1,7 @@
 // The arguments of the calls, in one stretch of memory, and what their outputs hold before a call.
-use crate::text::wide;
 use tlv::numbers::get16;
 use tlv::numbers::put16;
+use tlv::numbers::wide;
 use tlv::writer::put_bytes;
 ghost use Prim.Native.Nat.{_<_};
 

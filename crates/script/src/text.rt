@@ -1,7 +1,8 @@
-// Text: bytes in hexadecimal, numbers, and a sum that tells tables apart.
-ghost use mathlib.Core.Path.{_≡_};
+// Text: bytes in hexadecimal, numbers, and a sum that tells stretches apart.
+use tlv::numbers::wide;
 ghost use Prim.Native.Nat.{_≤_, _<_};
 
+// The value of a hexadecimal digit with capital letters; of any other byte 0.
 fn digit(c: u8) -> u8
     ensures { λ r. ⌜ r < 16 ⌝ }
 {
@@ -14,7 +15,7 @@ fn digit(c: u8) -> u8
 
 // The bytes that hexadecimal text spells, as many as there is room for; how many.
 pub fn read_hex(text: &[u8], out: &mut [u8]) -> usize {
-    let n = least(text.len() / 2, out.len());
+    let n = min(text.len() / 2, out.len());
     let mut i = 0;
     while i < n {
         out[i] = digit(text[2 * i]) * 16 + digit(text[2 * i + 1]);
@@ -23,12 +24,14 @@ pub fn read_hex(text: &[u8], out: &mut [u8]) -> usize {
     n
 }
 
-fn least(a: usize, b: usize) -> usize
+// The smaller of two numbers.
+fn min(a: usize, b: usize) -> usize
     ensures { λ r. ⌜ (r ≤ a) × (r ≤ b) ⌝ }
 {
     if a < b { a } else { b }
 }
 
+// Writes bytes in hexadecimal.
 fn write_hex(s: &[u8]) {
     let mut i = 0;
     while i < s.len() {
@@ -37,6 +40,7 @@ fn write_hex(s: &[u8]) {
     }
 }
 
+// Writes a byte as two digits.
 fn write_byte(x: u8) {
     let letters = b"0123456789ABCDEF";
     let high = letters[wide(x / 16)];
@@ -44,6 +48,7 @@ fn write_byte(x: u8) {
     io::write_all(1, &[high, low]);
 }
 
+// Writes a number in decimal.
 fn write_number(n: usize) {
     io::print_decimal(1, n as u64);
 }
@@ -80,10 +85,4 @@ pub fn adler(s: &[u8]) -> usize {
         i += 1;
     }
     b * 65536 + a
-}
-
-pub fn wide(x: u8) -> usize
-    ensures { λ r. ⌜ (r ≡ x) × (r < 256) ⌝ }
-{
-    x as usize
 }
