@@ -13,7 +13,7 @@ use borrow.Author.Tests.{le-leb, lt-leb, ltb-true, eqb-true, ne-eqb}
 use Rattle.model.specs.Lists.{all, first, select}
 use Rattle.model.specs.Tlv as model
 use Rattle.model.specs.Tlv.{Tlv, Field, keyHandle, Listed, getInfo, register, sign, deregister, openSettings, commandTag, kinds, kindOf, fieldsOf, tagOf, fits, listed, childOk, skippable}
-use Rattle.model.proofs.Basics.{split, and-left, and-right, NoneOf}
+use Rattle.model.proofs.Basics.{split, and-left, and-right, NoneOf, impossible}
 use Rattle.tlv.specs.Numbers.{numAt}
 use Rattle.command.specs.Kinds.{kindIs}
 use Rattle.command.specs.Slots.{commandFields, slots, slotField, placeOf, slotOf, timesFor}
@@ -196,12 +196,12 @@ none-listed (l ∷ ls) tag e h =
 -- ---- whether a child passes
 
 ok-listed : (c : Tlv) (o : Option Listed) (f : Field) → Option·map (λ (l : Listed). l .field) o ≡ some f → childOk c o ≡ fits f (c .value)
-ok-listed c none f e = let z : _≡_ {A = ℕ} 0 1 = cc in absurd (omega arith)
+ok-listed c none f e = impossible cc
 ok-listed c (some l) f e = let same : l .field ≡ f = cc in rw same
 
 ok-unlisted : (c : Tlv) (o : Option Listed) → Option·map (λ (l : Listed). l .field) o ≡ none → childOk c o ≡ skippable c
 ok-unlisted c none e = refl
-ok-unlisted c (some l) e = let z : _≡_ {A = ℕ} 0 1 = cc in absurd (omega arith)
+ok-unlisted c (some l) e = impossible cc
 
 module _ (k : model.Kind) (c : Tlv) {slot : ℕ} (s : slot ≡ slotOf (c .tag)) where
   pub child-other : slots ≤ slot → childPasses k c ≡ skippable c

@@ -14,7 +14,7 @@ use Rattle.model.specs.Records as records
 use Rattle.model.specs.Records.{own, maxOwn, maxRecords}
 use Rattle.model.specs.Commands as model
 use Rattle.model.specs.Commands.{Lent, Check, judge, deregisterChecks, only, keep, infoResponse, decideGetInfo, decideOpenSettings, registerChecks, registerDraft, decideRegister, decideDeregister, response, draft, add}
-use Rattle.model.proofs.Basics.{split, Passed, passes, or-right}
+use Rattle.model.proofs.Basics.{split, Passed, passes, or-right, impossible}
 use Rattle.model.proofs.Fields.{field-fits}
 use Rattle.model.proofs.LayoutLaws.{fits-most}
 use Rattle.tlv.specs.Heads.{part}
@@ -54,7 +54,7 @@ module _ {s out out′ : List ℕ} {n r : ℕ} (p : Wrote out 0 s n out′ r) wh
 pub judge-fails : (cs : List Check) {A : Type 0} (says : ℕ → A) (passed : A) (n : ℕ) → judge cs Fails Passes ≡ Fails n
     → judge cs says passed ≡ says n
 unfolding judge
-judge-fails [] says passed n e = let z : _≡_ {A = ℕ} 0 1 = cc in absurd (omega arith)
+judge-fails [] says passed n e = impossible cc
 judge-fails (c ∷ cs) says passed n e =
     split (c .fails) (λ k. let f : c .says ≡ n = cc in rw (k, f)) (λ k. rw k (judge-fails cs says passed n (rw k at e)))
 
@@ -63,7 +63,7 @@ pub judge-passed : (cs : List Check) → judge cs Fails Passes ≡ Passes → Pa
 unfolding judge
 judge-passed [] e = tt
 judge-passed (c ∷ cs) e =
-    split (c .fails) (λ k. let z : _≡_ {A = ℕ} 0 1 = cc in absurd (omega arith)) (λ k. (k, judge-passed cs (rw k at e)))
+    split (c .fails) (λ k. impossible cc) (λ k. (k, judge-passed cs (rw k at e)))
 
 pub judge-passes : (cs : List Check) {A : Type 0} (says : ℕ → A) (passed : A) → judge cs Fails Passes ≡ Passes
     → judge cs says passed ≡ passed

@@ -1,4 +1,3 @@
 -- The laws of the commands' code.
 pub mod JudgeLaws
 pub mod AnswerLaws
-pub mod SignLaws

@@ -5,7 +5,6 @@ use mathlib.Core.Bool.{Bool, true, false, cond, _&&_, and-false}
 use mathlib.Core.List.{List, _∷_}
 use mathlib.Core.Option.{Option, none, some, Option·map}
 use Prim.Native.Nat.{ℕ, _+_, _-_, _≤_, _<_}
-use native.Mathlib.Omega.{arith}
 use lib.ListN.{length, drop}
 use lib.Dec.{eqb}
 use borrow.Author.Tests.{le-leb, lt-leb, eq-eqb, ne-eqb, eqb-true}
@@ -13,7 +12,7 @@ use Rattle.model.specs.Tlv as model
 use Rattle.model.specs.Tlv.{Tlv, tlv, tlvs, isRun, ruleOf, tagOf, fits}
 use Rattle.model.specs.Layouts as layouts
 use Rattle.model.specs.Layouts.{Layout, field, matches}
-use Rattle.model.proofs.Basics.{and-left, and-right}
+use Rattle.model.proofs.Basics.{and-left, and-right, impossible}
 use Rattle.model.proofs.LayoutLaws.{fits-least, fits-most}
 use Rattle.tlv.specs.Heads.{headAt, between, part}
 use Rattle.tlv.specs.Spans.{span, Inside}
@@ -102,12 +101,12 @@ module _ (f : model.Field) (s : List ℕ) (at : ℕ) where
         obeys = and-right (eqb tag (tagOf f)) _ t;
         run-is = rw (← g) (run-tlv i);
       })
-  in-tlv tag start end p i false t x = let z : _≡_ {A = ℕ} 0 1 = cc in absurd (omega arith)
+  in-tlv tag start end p i false t x = impossible cc
 
   in-head : (h : Head) → headAt s at ≡ h → (p : Span) → foundIn f s h ≡ At p → IsField f s at p
   in-head (Found tag start end) q p x = in-tlv tag start end p (tlv-is s at tag start end q) _ refl x
-  in-head Bad q p x = let z : _≡_ {A = ℕ} 0 1 = cc in absurd (omega arith)
-  in-head End q p x = let z : _≡_ {A = ℕ} 0 1 = cc in absurd (omega arith)
+  in-head Bad q p x = impossible cc
+  in-head End q p x = impossible cc
 
   pub field-is : (p : Span) → fieldAt f s at ≡ At p → IsField f s at p
   unfolding fieldAt
@@ -116,7 +115,7 @@ module _ (f : model.Field) (s : List ℕ) (at : ℕ) where
   not-tlv : (l : Layout) (tag start end : ℕ) → IsTlv s at tag start end → (b : Bool)
       → (eqb tag (tagOf f) && fits f (between s start end)) ≡ b → cond b (At (span start end)) Missing ≡ Missing
       → isRun (matches (field f l)) (tlvs (drop at s)) ≡ false
-  not-tlv l tag start end i true t x = let z : _≡_ {A = ℕ} 0 1 = cc in absurd (omega arith)
+  not-tlv l tag start end i true t x = impossible cc
   not-tlv l tag start end i false t x =
       rw (run-tlv i) (matches-first f l (tlv tag (between s start end)) (tlvs (drop end s)) ∙ rw t)
 

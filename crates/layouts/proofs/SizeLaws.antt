@@ -14,7 +14,7 @@ use Rattle.model.specs.Lists.{select}
 use Rattle.model.specs.Tlv.{num, Tlv, tlv, tlvs, tlvsPast, isRun, Field, ruleOf, tagOf, fits}
 use Rattle.model.specs.Layouts.{Layout, end, field, group, size, matches, reads}
 use Rattle.model.specs.Reader.{holds, partsAt, parts, fieldParts}
-use Rattle.model.proofs.Basics.{clash, and-left, and-right, select-append}
+use Rattle.model.proofs.Basics.{clash, and-left, and-right, select-append, impossible}
 use Rattle.model.proofs.LayoutLaws.{most, fits-most, fits-least}
 use Rattle.model.proofs.PartLaws.{honest, lacks}
 
@@ -37,7 +37,7 @@ pub record Front (t : Tlv) (ts : List Tlv) (s : List ℕ) : Type 0 where
 past : (k : ℕ) (s : List ℕ) (ts : List Tlv) → tlvsPast k s ≡ some ts → (k ≤ length s) × (tlvs (drop k s) ≡ some ts)
 unfolding tlvsPast
 past zero s ts e = (zero-le, e)
-past (suc k) [] ts e = let z : _≡_ {A = ℕ} 0 1 = cc in absurd (omega arith)
+past (suc k) [] ts e = impossible cc
 past (suc k) (x ∷ s) ts e = let p = past k s ts e in (omega (arith, p .0), p .1)
 
 run-none : (s : List ℕ) → tlvs s ≡ some [] → s ≡ []
@@ -53,10 +53,10 @@ run-none (a ∷ b ∷ c ∷ d ∷ s) e =
 
 front : (s : List ℕ) (t : Tlv) (ts : List Tlv) → tlvs s ≡ some (t ∷ ts) → Front t ts s
 unfolding tlvsPast
-front [] t ts e = let z : _≡_ {A = ℕ} 0 1 = cc in absurd (omega arith)
-front (a ∷ []) t ts e = let z : _≡_ {A = ℕ} 0 1 = cc in absurd (omega arith)
-front (a ∷ b ∷ []) t ts e = let z : _≡_ {A = ℕ} 0 1 = cc in absurd (omega arith)
-front (a ∷ b ∷ c ∷ []) t ts e = let z : _≡_ {A = ℕ} 0 1 = cc in absurd (omega arith)
+front [] t ts e = impossible cc
+front (a ∷ []) t ts e = impossible cc
+front (a ∷ b ∷ []) t ts e = impossible cc
+front (a ∷ b ∷ c ∷ []) t ts e = impossible cc
 front (a ∷ b ∷ c ∷ d ∷ s) t ts e =
     let n : ℕ = num (c ∷ d ∷ []) in
     let m = map-eq-some-iff _ _ .0 e in

@@ -14,7 +14,7 @@ use Rattle.model.specs.Tlv.{num, Tlv, tlv, tlvs, tlvsPast, isRun, Field, keyId,
 use Rattle.model.specs.Layouts.{Layout, end, field, fields, matches}
 use Rattle.model.specs.Records as model
 use Rattle.model.specs.Records.{maxRecords, tableOk, storedRecord, storedAs, decode}
-use Rattle.model.proofs.Basics.{split}
+use Rattle.model.proofs.Basics.{split, impossible}
 use Rattle.tlv.specs.Numbers.{numAt}
 use Rattle.tlv.specs.Heads.{headAt, between, part}
 use Rattle.tlv.specs.declared.heads.Span.{Span}
@@ -187,12 +187,12 @@ other-tag tag v h = simp (ne-eqb tag pairTag h)
 not-stored : (v : List ℕ) → storedIn v ≡ none → isStored (tlv pairTag v) ≡ false
 unfolding storedIn
 not-stored v e =
-    split (isStored (tlv pairTag v)) (λ p. let z : _≡_ {A = ℕ} 0 1 = cc in absurd (omega arith)) (λ p. p)
+    split (isStored (tlv pairTag v)) (λ p. impossible cc) (λ p. p)
 
 is-stored : (v : List ℕ) (r : model.Record) → storedIn v ≡ some r → (isStored (tlv pairTag v) ≡ true) × (storedAs (tlv pairTag v) ≡ r)
 unfolding storedIn
 is-stored v r e =
-    split (isStored (tlv pairTag v)) (λ p. (p, cc)) (λ p. let z : _≡_ {A = ℕ} 0 1 = cc in absurd (omega arith))
+    split (isStored (tlv pairTag v)) (λ p. (p, cc)) (λ p. impossible cc)
 
 -- ---- a table read up to a place
 

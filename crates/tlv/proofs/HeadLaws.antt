@@ -12,7 +12,7 @@ use lib.Dec.{leb, eqb, eqb·suc-zero}
 use borrow.Author.Tests.{leb-true, leb-false, eqb-true, eqb-false, le-leb, lt-leb, eq-eqb, ne-eqb}
 use Rattle.model.specs.Lists.{all, empty}
 use Rattle.model.specs.Tlv.{num, Tlv, tlv, tlvs, tlvsPast, isRun, composite, wellFormed, fills}
-use Rattle.model.proofs.Basics.{split}
+use Rattle.model.proofs.Basics.{split, impossible}
 use Rattle.tlv.specs.Numbers.{numAt}
 use Rattle.tlv.specs.Heads.{headAt, between, part}
 use Rattle.tlv.specs.Spans.{Inside}
@@ -61,23 +61,23 @@ module _ (s : List ℕ) (at : ℕ) where
   pub tlv-is : (tag start end : ℕ) → headAt s at ≡ Found tag start end → IsTlv s at tag start end
   tlv-is tag start end e =
       cases
-      (λ h d. let z : _≡_ {A = ℕ} 0 1 = cc in absurd (omega arith))
-      (λ h k d. let z : _≡_ {A = ℕ} 0 1 = cc in absurd (omega arith))
+      (λ h d. impossible cc)
+      (λ h k d. impossible cc)
       (λ h d. let x : start ≡ at + 4 = cc in let y : end ≡ at + 4 + numAt 2 s (at + 2) = cc in
       record { start-is = x; ordered = omega arith; within = omega arith; tag-is = cc; end-is = y })
 
   pub bad-is : headAt s at ≡ Bad → (at < length s) × (length s < at + 4 + numAt 2 s (at + 2))
   bad-is e =
       cases
-      (λ h d. let z : _≡_ {A = ℕ} 0 1 = cc in absurd (omega arith))
+      (λ h d. impossible cc)
       (λ h k d. (h, k))
-      (λ h d. let z : _≡_ {A = ℕ} 0 1 = cc in absurd (omega arith))
+      (λ h d. impossible cc)
 
   pub end-is : headAt s at ≡ End → length s ≤ at
   end-is e =
       cases (λ h d. h)
-      (λ h k d. let z : _≡_ {A = ℕ} 0 1 = cc in absurd (omega arith))
-      (λ h d. let z : _≡_ {A = ℕ} 0 1 = cc in absurd (omega arith))
+      (λ h k d. impossible cc)
+      (λ h d. impossible cc)
 
 -- ---- the run of TLVs from a place on
 

@@ -9,7 +9,7 @@ use lib.ListN.{length, take}
 use lib.Seq.{take-all}
 use Rattle.model.specs.Commands.{Result, refused, gave}
 use Rattle.model.specs.Reader.{Stretch, isResponse, readResponse}
-use Rattle.model.proofs.Basics.{split}
+use Rattle.model.proofs.Basics.{split, impossible}
 use Rattle.model.proofs.Refusals.{not-read}
 use Rattle.tlv.specs.declared.heads.Span.{Span}
 use Rattle.assertion.specs.Completions.{Ended, ended, ends}
@@ -34,15 +34,13 @@ module _ (out : List ℕ) {out′ : List ℕ} (n len : ℕ) where
       rw (k, o)
   refused-as (gave s) e =
       let r = ap (λ (x : Ended). x .result) e in
-      let z : _≡_ {A = ℕ} 0 1 = cc in
-      absurd (omega arith)
+      impossible cc
 
   wrote-as : (q : Result (List ℕ)) → ended (Wrote n) out′ ≡ ends q out → wrote 0 n out′ ≡ completedAs q (wrote 0 len out)
   unfolding ends completedAs
   wrote-as (refused m) e =
       let r = ap (λ (x : Ended). x .result) e in
-      let z : _≡_ {A = ℕ} 0 1 = cc in
-      absurd (omega arith)
+      impossible cc
   wrote-as (gave s) e =
       let r = ap (λ (x : Ended). x .result) e in
       let o = ap (λ (x : Ended). x .response) e in

@@ -5,13 +5,13 @@ use mathlib.Core.Bool.{true, false}
 use mathlib.Core.List.{List, _++_}
 use mathlib.Core.Option.{none, some}
 use Prim.Native.Nat.{ℕ, _≤_}
-use native.Mathlib.Omega.{arith}
 use lib.ListN.{length, drop}
 use Rattle.model.specs.Records.{tableOk, maxStored, encode, decode}
 use Rattle.model.specs.Commands as model
 use Rattle.model.specs.Commands.{Lent, Call, Given, stored, tableOf, Result, refused, gave, Effect, leastOutput, outcome, outputs, bytesOf, over}
 use Rattle.model.specs.Traces.{leftBy}
 use Rattle.model.proofs.Kept.{kept}
+use Rattle.model.proofs.Basics.{impossible}
 use Rattle.tlv.specs.Writing.{Wrote}
 use Rattle.tlv.proofs.WriteLaws.{front}
 use Rattle.key_table.specs.Views.{viewTable}
@@ -58,7 +58,7 @@ refused-returns o n a l m s t e = rw e
 
 refused-is : (o : Result Effect) (n : ℕ) → refused n ≡ sizes o → o ≡ refused n
 refused-is (refused k) n e = cc
-refused-is (gave x) n e = let z : _≡_ {A = ℕ} 0 1 = cc in absurd (omega arith)
+refused-is (gave x) n e = impossible cc
 
 pub record GaveSize (o : Result Effect) (a : Answer) : Type 0 where
   pub effect : Effect
@@ -66,7 +66,7 @@ pub record GaveSize (o : Result Effect) (a : Answer) : Type 0 where
   pub size : a ≡ sizeOf (effect .answer)
 
 gave-is : (o : Result Effect) (a : Answer) → gave a ≡ sizes o → GaveSize o a
-gave-is (refused k) a e = let z : _≡_ {A = ℕ} 0 1 = cc in absurd (omega arith)
+gave-is (refused k) a e = impossible cc
 gave-is (gave x) a e = record { effect = x; is = refl; size = cc }
 
 -- the numbers are those of the answer

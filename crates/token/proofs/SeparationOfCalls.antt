@@ -13,7 +13,7 @@ use lib.Seq.{take-at}
 use Rattle.model.specs.Records.{Table, tableOk, own, encode}
 use Rattle.model.specs.Commands.{Call, Given, Result, refused, gave, Answer, Effect, refusals, outcome, bytesOf, outputs}
 use Rattle.model.specs.Traces.{result, leftBy, next, final, isOf, answered, Seen, observe}
-use Rattle.model.proofs.Basics.{split}
+use Rattle.model.proofs.Basics.{split, impossible}
 use Rattle.model.proofs.Kept.{kept, next-kept}
 use Rattle.model.proofs.StoredForm.{decode-encode}
 use Rattle.model.proofs.Separation.{separation}
@@ -38,7 +38,7 @@ unfolding outcome refusals
 positive c g n e =
     one-of (refusals c g) _ (omega arith, (omega arith, (omega arith, (omega arith, tt))))
     (λ k h q. let i = sym e ∙ q in let z : n ≡ k = cc in omega arith)
-    (λ q. let i = sym e ∙ q in let z : _≡_ {A = ℕ} 0 1 = cc in absurd (omega arith))
+    (λ q. let i = sym e ∙ q in impossible cc)
 
 module _ (h : List ℕ) (m : Made) (t : Table) where
   is-refused : (n : ℕ) → 0 < n → tableOk t ≡ true → m .got ≡ returned (refused n) (m .lent) → Is h m t (refused n)

@@ -8,10 +8,10 @@ use Rattle.model.specs.Tlv.{sign, broken}
 use Rattle.command.specs.Parse.{FieldsPlaced}
 use Rattle.key_table.proofs.RuleLaws.{few-rows}
 use borrow.Author.Needs.{needs}
 use Rattle.decisions.proofs.AnswerLaws.{status-decided}
-use Rattle.decisions.proofs.SignLaws.{Chose, chose, sign-fails, sign-unbroken, none-chosen, one-chosen, several-chosen}
-use Rattle.decisions.proofs.sign.sign.Statement.{statement}
-use Rattle.decisions.proofs.sign.sign.Tie as tie
+use Rattle.signing.proofs.SignLaws.{Chose, chose, sign-fails, sign-unbroken, none-chosen, one-chosen, several-chosen}
+use Rattle.signing.proofs.sign.Statement.{statement}
+use Rattle.signing.proofs.sign.Tie as tie
 
 -- where the checks have passed
 abbrev start : tie.After-enum-told → tie.Start

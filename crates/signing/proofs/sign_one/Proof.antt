@@ -5,10 +5,10 @@ use lib.ListN.{length}
 use native.Mathlib.Omega.{arith}
 use Rattle.model.specs.Tlv.{sign, challengeHash}
 use borrow.Author.Needs.{needs}
 use Rattle.decisions.proofs.AnswerLaws.{placed-short}
-use Rattle.decisions.proofs.SignLaws.{count-rises, one-fails, one-passes}
-use Rattle.decisions.proofs.sign.sign_one.Statement.{statement}
-use Rattle.decisions.proofs.sign.sign_one.Tie as tie
+use Rattle.signing.proofs.SignLaws.{count-rises, one-fails, one-passes}
+use Rattle.signing.proofs.sign_one.Statement.{statement}
+use Rattle.signing.proofs.sign_one.Tie as tie
 
 judge-one-requires : tie.Need-judge-one-requires
 judge-one-requires c κs = search needs

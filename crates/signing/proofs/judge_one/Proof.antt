@@ -5,8 +5,8 @@ use mathlib.Core.Logic.{⊎-elim}
 use lib.Dec.{eqb}
 use borrow.Author.Tests.{eq-eqb, ne-eqb}
 use Rattle.model.specs.Commands.{judge}
-use Rattle.decisions.proofs.sign.judge_one.Statement.{statement}
-use Rattle.decisions.proofs.sign.judge_one.Tie as tie
+use Rattle.signing.proofs.judge_one.Statement.{statement}
+use Rattle.signing.proofs.judge_one.Tie as tie
 
 -- past the display result
 shown : (c : tie.Joined1) → let a = c .before .args in (a .content && not (eqb (a .display) 0)) ≡ false

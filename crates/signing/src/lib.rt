@@ -1,13 +1,14 @@
-use crate::answers::Answer;
-use crate::answers::Change;
-use crate::answers::Decision;
-use crate::answers::Judged;
-use crate::statuses::display_status;
-use crate::statuses::only;
-use crate::statuses::verdict_status;
+// Sign, decided on a table that is only read.
 use command::kinds::Kind;
 use command::parse::Fields;
 use command::parse::fields_of;
+use decisions::answers::Answer;
+use decisions::answers::Change;
+use decisions::answers::Decision;
+use decisions::answers::Judged;
+use decisions::statuses::display_status;
+use decisions::statuses::only;
+use decisions::statuses::verdict_status;
 use key_table::lookups::chosen;
 use key_table::records::Record;
 use key_table::records::Table;

@@ -1,8 +1,8 @@
 use borrow.Author.Needs.{needs}
 use borrow.Author.Tests.{eq-eqb, ne-eqb}
 use Rattle.model.specs.Commands.{judge}
-use Rattle.decisions.proofs.sign.judge_sign.Statement.{statement}
-use Rattle.decisions.proofs.sign.judge_sign.Tie as tie
+use Rattle.signing.proofs.judge_sign.Statement.{statement}
+use Rattle.signing.proofs.judge_sign.Tie as tie
 
 returns : tie.Need-returns
 unfolding judge

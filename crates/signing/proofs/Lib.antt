@@ -1,0 +1,2 @@
+-- The laws of Sign.
+pub mod SignLaws
