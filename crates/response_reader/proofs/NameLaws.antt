@@ -11,11 +11,11 @@ use lib.Seq.{drop-drop}
 use lib.Dec.{leb, eqb}
 use borrow.Author.Tests.{leb-true, leb-false, eqb-true, eqb-false, le-leb, lt-leb, eq-eqb, ne-eqb}
 use Rattle.model.specs.Lists.{any, select, distinct}
-use Rattle.model.specs.Tlv.{tagOf, ok, username, keyHandle, sign, pairTag, responseTag}
+use Rattle.model.specs.Tlv.{tagOf, ok, keyHandle, sign, pairTag, responseTag}
 use Rattle.model.specs.Layouts.{Layout, end, fields, reads}
-use Rattle.model.specs.Commands.{nameRows, nameList}
+use Rattle.model.specs.Commands.{pairFields, nameRows, nameList}
 use Rattle.model.specs.Reader.{Part, holds, partsAt, fieldParts, listedKeys, listLengths, isHandle}
-use Rattle.model.proofs.Basics.{split, and-left, both, select-append}
+use Rattle.model.proofs.Basics.{split, and-left, both, select-append, numbersFrom}
 use Rattle.model.proofs.LayoutLaws.{fits-least, fits-most}
 use Rattle.model.proofs.PartLaws.{honest}
 use Rattle.model.proofs.ResponseWitness.{rows-plain}
@@ -33,9 +33,6 @@ use Rattle.response_reader.specs.declared.names.Keys.{Keys}
 use Rattle.response_reader.proofs.MetLaws.{met-end, met-tlv, walked, parts-met}
 
 -- ---- what a pair holds
-
-abbrev pairFields : Layout
-pairFields = fields (username ∷ keyHandle ∷ [])
 
 abbrev pub afterPair : List ℕ → ℕ → ℕ
 afterPair s at = afterGroup pairTag pairFields s at
@@ -214,10 +211,6 @@ module _ {s column : List ℕ} {from n at : ℕ} (i : Keyed s from column n at) 
 -- ---- the whole list
 
 -- numbers one after the other from a on
-abbrev run : ℕ → ℕ → List ℕ
-run a zero = []
-run a (suc k) = a ∷ run (suc a) k
-
 at-least : (a n : ℕ) → (eqb a n || leb (suc a) n) ≡ leb a n
 at-least a n =
     split (leb a n)
@@ -226,7 +219,7 @@ at-least a n =
     (λ e. let h : n < a = leb-false _ _ e in rw (e, ne-eqb a n (λ z. omega arith)) (lt-leb (suc a) n (omega arith)))
 
 -- n, which is below the end of the run, is one of them exactly if it is not below its start
-any-run : (p : ℕ → Bool) (n a k : ℕ) → n < a + k → ((m : ℕ) → a ≤ m → m < a + k → p m ≡ eqb m n) → any p (run a k) ≡ leb a n
+any-run : (p : ℕ → Bool) (n a k : ℕ) → n < a + k → ((m : ℕ) → a ≤ m → m < a + k → p m ≡ eqb m n) → any p (numbersFrom a k) ≡ leb a n
 any-run p n a zero h f = sym (lt-leb a n (omega arith))
 any-run p n a (suc k) h f =
     let ih = any-run p n (suc a) k (omega arith) (λ m l u. f m (omega arith) (omega arith)) in

@@ -11,9 +11,9 @@ use lib.Seq.{drop-length}
 use borrow.Author.Tests.{lt-leb, ne-eqb}
 use Rattle.model.specs.Lists.{all}
 use Rattle.model.specs.Tlv.{num, Tlv, tlv, tlvs, tlvsPast, isRun, Field, keyId, mixedToken, username, counter, pairTag}
-use Rattle.model.specs.Layouts.{Layout, end, field, fields, matches}
+use Rattle.model.specs.Layouts.{Layout, end, field, matches}
 use Rattle.model.specs.Records as model
-use Rattle.model.specs.Records.{maxRecords, tableOk, storedRecord, storedAs, decode}
+use Rattle.model.specs.Records.{maxRecords, tableOk, recordFields, storedRecord, storedAs, decode}
 use Rattle.model.proofs.Basics.{split, impossible}
 use Rattle.tlv.specs.Numbers.{numAt}
 use Rattle.tlv.specs.Heads.{headAt, between, part}
@@ -46,27 +46,23 @@ tidy-none e = record { names = λ i h. absurd (omega arith); rest = rw e }
 
 -- ---- a record
 
--- the fields in a stored record
-abbrev inner : Layout
-inner = fields (keyId ∷ mixedToken ∷ username ∷ counter ∷ [])
-
 -- a TLV is a stored record
 abbrev pub isStored : Tlv → Bool
 isStored c = matches storedRecord (c ∷ [])
 
-stored-inner : (v : List ℕ) → isStored (tlv pairTag v) ≡ isRun (matches inner) (tlvs v)
+stored-inner : (v : List ℕ) → isStored (tlv pairTag v) ≡ isRun (matches recordFields) (tlvs v)
 unfolding matches
-stored-inner v = and-true (isRun (matches inner) (tlvs v))
+stored-inner v = and-true (isRun (matches recordFields) (tlvs v))
 
-no-record : (v : List ℕ) → isRun (matches inner) (tlvs v) ≡ false → storedIn v ≡ none
+no-record : (v : List ℕ) → isRun (matches recordFields) (tlvs v) ≡ false → storedIn v ≡ none
 unfolding storedIn
 no-record v e = rw (stored-inner v, e)
 
 -- what is left to be read from a place on
 pub record Unread (v : List ℕ) (l : Layout) (at : ℕ) : Type 0 where
-  pub same : isRun (matches inner) (tlvs v) ≡ isRun (matches l) (tlvs (drop at v))
+  pub same : isRun (matches recordFields) (tlvs v) ≡ isRun (matches l) (tlvs (drop at v))
 
-pub unread-all : (v : List ℕ) → Unread v inner 0
+pub unread-all : (v : List ℕ) → Unread v recordFields 0
 unread-all v = record { same = refl }
 
 module _ {v : List ℕ} {f : Field} {l : Layout} {at : ℕ} (u : Unread v (field f l) at) where
@@ -111,7 +107,7 @@ module _ {v : List ℕ} {key mixed name count : Span} (i₁ : IsField keyId v 0 
   unfolding storedIn storedAs matches tlvsPast
   row-whole h =
       let r : tlvs (drop (count .end) v) ≡ some [] = rw (h, drop-length v) in
-      let m : isRun (matches inner) (tlvs v) ≡ true = unread-none .same ∙ rw r in
+      let m : isRun (matches recordFields) (tlvs v) ≡ true = unread-none .same ∙ rw r in
       let k : count .end - count .start ≡ 4 = omega (arith, i₄ .inside, field-least i₄, field-most i₄) in
       let n : num (part v count) ≡ numAt 4 v (count .start) = num-between v (count .start) (count .end) ∙ rw k in
       rw (stored-inner v, m, i₁ .run-is, i₂ .run-is, i₃ .run-is, i₄ .run-is, r, n)
