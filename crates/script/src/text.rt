@@ -1,5 +1,7 @@
 // Text: bytes in hexadecimal, numbers, and a sum that tells stretches apart.
 use tlv::numbers::wide;
+ghost use mathlib.Core.Path.{_≡_};
+ghost use Rattle.script.specs.Adler.{adlerFrom};
 ghost use Prim.Native.Nat.{_≤_, _<_};
 
 // The value of a hexadecimal digit with capital letters; of any other byte 0.
@@ -75,7 +77,9 @@ pub fn write_written(s: &[u8], n: usize, whole: bool) {
 }
 
 // Adler-32, which tells stretches apart in a short line.
-pub fn adler(s: &[u8]) -> usize {
+pub fn adler(s: &[u8]) -> usize
+    ensures { λ r. ⌜ r ≡ adlerFrom 1 0 (now (s .entry)) ⌝ }
+{
     let mut a = 1;
     let mut b = 0;
     let mut i = 0;

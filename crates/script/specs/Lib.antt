@@ -1,0 +1,2 @@
+-- What the sum of a stretch is.
+pub mod Adler
