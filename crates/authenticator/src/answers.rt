@@ -1,4 +1,5 @@
 use decisions::answers::Answer;
+use decisions::answers::Change;
 use key_table::records::Table;
 ghost use mathlib.Core.Path.{_≡_};
 ghost use Rattle.authenticator.specs.Answers.{number};
@@ -29,7 +30,13 @@ pub enum Outcome {
     Gave(Answer),
 }
 
-// What a call gives, and the table that it leaves.
+// What a call on a stored table gives, and what it changes; after a refusal nothing.
+pub struct Served {
+    pub outcome: Outcome,
+    pub change: Change,
+}
+
+// What a call by value gives, and the table that it leaves.
 pub struct Ran {
     pub outcome: Outcome,
     pub table: Table,

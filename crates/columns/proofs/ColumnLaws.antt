@@ -1,42 +1,54 @@
--- Columns: their rows at a place, how often a row stands there, what a walk over the rows goes by, and a row written after the others.
+-- Rows of 32 bytes: two of them byte by byte, how often a row stands there, what a walk over the rows goes by, and a row more.
 -- Assumes nothing.
 use mathlib.Core.Path.{_≡_, refl, sym, ap, _∙_, fun-ext}
 use mathlib.Core.Bool.{Bool, true, false, not, cond, _&&_, _||_}
-use mathlib.Core.List.{List, [], _∷_, _++_, append-assoc}
-use Prim.Native.Nat.{ℕ, zero, suc, _+_, _-_, _*_, _≤_, _<_}
+use mathlib.Core.List.{List, [], _∷_, _++_, map-append}
+use Prim.Native.Nat.{ℕ, zero, suc, _+_, _≤_, _<_}
 use native.Mathlib.Nat.{zero-add}
 use native.Mathlib.Numerals.{add-one}
 use native.Mathlib.Omega.{arith}
-use lib.ListN.{length, getD, take, drop, drop-of-length-le, length-drop}
-use lib.Seq.{drop-cons, drop-drop, take-add, take-at, drop-at, length-take-le}
-use lib.Dec.{leb}
-use borrow.Author.Tests.{leb-true, le-leb}
+use lib.ListN.{length, getD, take, drop, drop-of-length-le, length-append, length-drop, length-map, List·getD-append, List·getD-map}
+use lib.Seq.{drop-cons, getD-drop, getD-at}
+use lib.Dec.{eqb, leb, ltb}
+use borrow.Author.Tests.{ltb-true, ltb-false, leb-true, le-leb}
 use Rattle.model.specs.Lists.{all, consIf, eqBytes, among, distinct}
-use Rattle.model.proofs.Basics.{split, eqBytes-eq}
-use Rattle.tlv.specs.Writing.{splice}
-use Rattle.columns.specs.Columns.{rows, row, times, eachFew}
+use Rattle.model.proofs.Basics.{split, eqBytes-eq, eqBytes-not}
+use Rattle.columns.specs.Columns.{rows, row, Within, times, eachFew}
 
--- ---- the rows
+-- ---- two rows, byte by byte
 
-pub length-rows : (n : ℕ) (c : List ℕ) → length (rows n c) ≡ n
-unfolding rows
-length-rows zero c = refl
-length-rows (suc n) c = ap suc (length-rows n (drop 32 c))
+one-more : (i : ℕ) (x y : List ℕ) → i < length x → i < length y
+    → eqBytes (take (suc i) x) (take (suc i) y) ≡ (eqb (getD x i 0) (getD y i 0) && eqBytes (take i x) (take i y))
+unfolding eqBytes
+one-more i [] y h k = absurd (omega arith)
+one-more i (a ∷ x) [] h k = absurd (omega arith)
+one-more zero (a ∷ x) (b ∷ y) h k = refl
+one-more (suc i) (a ∷ x) (b ∷ y) h k =
+    let ih = one-more i x y (omega arith) (omega arith) in
+    split (eqb a b)
+    (λ e. rw e ih)
+    (λ e. split (eqb (getD x i 0) (getD y i 0)) (λ f. rw (e, f)) (λ f. rw (e, f)))
 
--- the row at a place
-getD-rows : (i n : ℕ) (c : List ℕ) → i < n → getD (rows n c) i [] ≡ row i c
-unfolding rows
-getD-rows i zero c h = absurd (omega arith)
-getD-rows zero (suc n) c h = refl
-getD-rows (suc i) (suc n) c h =
-    let e : 32 + 32 * i ≡ 32 * suc i = omega arith in
-    getD-rows i n (drop 32 c) (omega arith) ∙ rw (drop-drop, e)
+-- the first bytes of what stands at two places, and one more
+pub more-bytes : (a b : List ℕ) (p q i : ℕ) → p + i < length a → q + i < length b
+    → eqBytes (take (i + 1) (drop p a)) (take (i + 1) (drop q b))
+    ≡ (eqb (getD a (p + i) 0) (getD b (q + i) 0) && eqBytes (take i (drop p a)) (take i (drop q b)))
+more-bytes a b p q i h k =
+    rw (add-one, ← getD-drop p a i 0, ← getD-drop q b i 0)
+    (one-more i (drop p a) (drop q b) (simp length-drop (omega arith)) (simp length-drop (omega arith)))
 
--- a row as the part of the column that is lent
-pub part-row : (i : ℕ) (c : List ℕ) → take (32 * i + 32 - 32 * i) (drop (32 * i) c) ≡ row i c
-part-row i c =
-    let e : 32 * i + 32 - 32 * i ≡ 32 = omega arith in
-    rw e
+-- the first byte of nothing
+pub first-none : (v : List ℕ) → length v ≡ 0 → 0 ≡ getD v 0 0
+first-none [] e = refl
+first-none (x ∷ v) e = absurd (omega arith)
+
+-- a row that begins with another byte
+pub first-differs : (s v : List ℕ) (p : ℕ) → p + 32 ≤ length s → (getD s p 0 ≡ getD v 0 0 → ⊥) → eqBytes (row p s) v ≡ false
+first-differs s v p h k =
+    eqBytes-not (row p s) v
+    (λ e. k (let d : drop p s ≡ getD s p 0 ∷ drop (suc p) s = drop-cons s p 0 (omega arith) in
+    let f : getD (row p s) 0 0 ≡ getD s p 0 = rw d in
+    sym f ∙ ap (λ (x : List ℕ). getD x 0 0) e))
 
 -- ---- how often a row stands there
 
@@ -74,46 +86,54 @@ few-from most (c ∷ cs) =
 
 -- ---- a walk over the rows
 
--- past the last row
-pub rows-end : (n i : ℕ) (c : List ℕ) → n ≤ i → drop i (rows n c) ≡ []
-rows-end n i c h = drop-of-length-le (rows n c) {i = i} (omega (arith, length-rows n c))
+module _ (off : ℕ) (at s : List ℕ) where
+  pub length-rows : length (rows off at s) ≡ length at
+  unfolding rows
+  length-rows = length-map at (λ p. row (p + off) s)
 
--- at row i, where b is what a test of this row gave
-module _ (n i : ℕ) (c : List ℕ) (h : i < n) where
-  pub rows-at : drop i (rows n c) ≡ row i c ∷ drop (i + 1) (rows n c)
-  rows-at = drop-cons (rows n c) i [] (omega (arith, length-rows n c)) ∙ rw (getD-rows i n c h, add-one)
+  module _ (i : ℕ) where
+    -- past the last row
+    pub rows-end : length at ≤ i → drop i (rows off at s) ≡ []
+    rows-end h = drop-of-length-le (rows off at s) {i = i} (omega (arith, length-rows))
 
-  module _ {b : Bool} where
-    pub among-at : (v : List ℕ) → b ≡ eqBytes (row i c) v → among v (drop i (rows n c)) ≡ (b || among v (drop (i + 1) (rows n c)))
-    among-at v e = rw (rows-at, ← e)
+    -- at row i, where b is what a test of this row gave
+    module _ (h : i < length at) where
+      pub rows-at : drop i (rows off at s) ≡ row (getD at i 0 + off) s ∷ drop (i + 1) (rows off at s)
+      unfolding rows
+      rows-at =
+          let f : ℕ → List ℕ = λ p. row (p + off) s in
+          rw (add-one, drop-cons (rows off at s) i (f 0) (omega (arith, length-rows)), List·getD-map f at i 0)
 
-    pub times-at : (v : List ℕ) → b ≡ eqBytes (row i c) v
-        → times v (drop i (rows n c)) ≡ cond b 1 0 + times v (drop (i + 1) (rows n c))
-    times-at v e = rw (rows-at, times-cons, ← e)
+      module _ {b : Bool} where
+        pub among-at : (v : List ℕ) → b ≡ eqBytes (row (getD at i 0 + off) s) v
+            → among v (drop i (rows off at s)) ≡ (b || among v (drop (i + 1) (rows off at s)))
+        among-at v e = rw (rows-at, ← e)
 
-    pub distinct-at : b ≡ among (row i c) (drop (i + 1) (rows n c))
-        → distinct (drop i (rows n c)) ≡ (not b && distinct (drop (i + 1) (rows n c)))
-    distinct-at e = rw (rows-at, ← e)
+        pub times-at : (v : List ℕ) → b ≡ eqBytes (row (getD at i 0 + off) s) v
+            → times v (drop i (rows off at s)) ≡ cond b 1 0 + times v (drop (i + 1) (rows off at s))
+        times-at v e = rw (rows-at, times-cons, ← e)
 
-    pub few-at : (most : ℕ) {k : ℕ} → k ≡ times (row i c) (drop i (rows n c)) → leb k most ≡ b
-        → fewFrom most (drop i (rows n c)) ≡ (b && fewFrom most (drop (i + 1) (rows n c)))
-    few-at most e f = rw rows-at (rw (← (rw rows-at at e), f))
+        pub distinct-at : b ≡ among (row (getD at i 0 + off) s) (drop (i + 1) (rows off at s))
+            → distinct (drop i (rows off at s)) ≡ (not b && distinct (drop (i + 1) (rows off at s)))
+        distinct-at e = rw (rows-at, ← e)
 
--- ---- a row written
+        pub few-at : (most : ℕ) {k : ℕ} → k ≡ times (row (getD at i 0 + off) s) (drop i (rows off at s)) → leb k most ≡ b
+            → fewFrom most (drop i (rows off at s)) ≡ (b && fewFrom most (drop (i + 1) (rows off at s)))
+        few-at most e f = rw rows-at (rw (← (rw rows-at at e), f))
 
--- a write past the first m bytes is one over the rest
-splice-add : (m j : ℕ) (k c : List ℕ) → splice (m + j) k c ≡ take m c ++ splice j k (drop m c)
-splice-add m j k c =
-    let e : m + j + length k ≡ m + (j + length k) = omega arith in
-    rw (take-add m j c, drop-drop, e) (simp append-assoc)
+-- ---- a place more
 
--- a row written after the first i
-pub rows-splice : (i : ℕ) (k c : List ℕ) → length k ≡ 32 → 32 * i + 32 ≤ length c → rows (suc i) (splice (32 * i) k c) ≡ rows i c ++ (k ∷ [])
-unfolding rows
-rows-splice zero k c e h = ap (λ (r : List ℕ). r ∷ []) (take-at k (drop (0 + length k) c) 32 e)
-rows-splice (suc i) k c e h =
-    let f : 32 * suc i ≡ 32 + 32 * i = omega arith in
-    let l : length (take 32 c) ≡ 32 = length-take-le 32 c (omega arith) in
-    let rest : List ℕ = splice (32 * i) k (drop 32 c) in
-    rw (f, splice-add, take-at (take 32 c) rest 32 l, drop-at (take 32 c) rest 32 l)
-    (ap (λ (rs : List (List ℕ)). take 32 c ∷ rs) (rows-splice i k (drop 32 c) e (simp length-drop (omega arith))))
+module _ (off : ℕ) (at s : List ℕ) (p : ℕ) where
+  pub rows-more : rows off (at ++ (p ∷ [])) s ≡ rows off at s ++ (row (p + off) s ∷ [])
+  unfolding rows
+  rows-more = map-append (λ p. row (p + off) s) at (p ∷ [])
+
+  pub within-more : Within off at s → p + off + 32 ≤ length s → Within off (at ++ (p ∷ [])) s
+  within-more w k =
+      record {
+        each =
+            λ i h.
+            split (ltb i (length at))
+            (λ e. let l : i < length at = ltb-true _ _ e in rw (List·getD-append at (p ∷ []) 0 i l) (w .each i l))
+            (λ e. let l : length at ≡ i = omega (arith, ltb-false, length-append at (p ∷ [])) in rw (getD-at at p [] 0 i l) k);
+      }

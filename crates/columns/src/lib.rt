@@ -1,68 +1,103 @@
-// Columns: rows of 32 bytes, one after the other in one stretch, and tests of every row or pair of rows.
-use tlv::bytes::same;
+// Rows of 32 bytes, each a fixed number of bytes after one of some places of a stretch, and tests of every row or pair of rows.
 ghost use mathlib.Core.Path.{_≡_};
-ghost use Prim.Native.Nat.{_+_, _*_, _≤_};
-ghost use lib.ListN.{length, drop};
+ghost use Prim.Native.Nat.{_+_, _≤_};
+ghost use lib.ListN.{length, drop, getD};
 ghost use Rattle.model.specs.Lists.{eqBytes, among, distinct};
-ghost use Rattle.columns.specs.Columns.{rows, row, times, eachFew};
+ghost use Rattle.columns.specs.Columns.{rows, row, Within, times, eachFew};
 
-// Row i of a column.
-fn row_at(c: &[u8], i: usize) -> &[u8]
-    requires { ⌜ 32 * i + 32 ≤ length (now c) ⌝ }
-    ensures { λ r. ⌜ now r ≡ row i (now (c .entry)) ⌝ }
+// Whether two rows are the same. Every byte is looked at, so that the compiler can take many at once.
+fn same_row(a: &[u8], p: usize, b: &[u8], q: usize) -> bool
+    requires { ⌜ (p + 32 ≤ length (now a)) × (q + 32 ≤ length (now b)) ⌝ }
+    ensures { λ r. ⌜ r ≡ eqBytes (row p (now (a .entry))) (row q (now (b .entry))) ⌝ }
 {
-    let a = 32 * i;
-    let e = a + 32;
-    &c[a..e]
+    let mut same = true;
+    let mut i: usize = 0;
+    while i < 32 {
+        if a[p + i] != b[q + i] {
+            same = false;
+        }
+        i += 1;
+    }
+    same
 }
 
-// Whether row i is v.
-pub fn row_is(c: &[u8], i: usize, v: &[u8]) -> bool
-    requires { ⌜ 32 * i + 32 ≤ length (now c) ⌝ }
-    ensures { λ r. ⌜ r ≡ eqBytes (row i (now (c .entry))) (now (v .entry)) ⌝ }
+// Whether the row at a place is v.
+pub fn row_is(s: &[u8], p: usize, v: &[u8]) -> bool
+    requires { ⌜ p + 32 ≤ length (now s) ⌝ }
+    ensures { λ r. ⌜ r ≡ eqBytes (row p (now (s .entry))) (now (v .entry)) ⌝ }
 {
-    same(row_at(c, i), v)
+    if v.len() != 32 {
+        return false;
+    }
+    same_row(s, p, v, 0)
 }
 
-// Whether one of the rows from a place up to the nth is v.
-pub fn is_among(c: &[u8], from: usize, n: usize, v: &[u8]) -> bool
-    requires { ⌜ 32 * n ≤ length (now c) ⌝ }
-    ensures { λ r. ⌜ r ≡ among (now (v .entry)) (drop from (rows n (now (c .entry)))) ⌝ }
+// The first byte of a stretch, by which most rows are told from it; 0 where there is none.
+fn first_of(v: &[u8]) -> u8
+    ensures { λ r. ⌜ r ≡ getD (now (v .entry)) 0 0 ⌝ }
 {
+    if v.len() == 0 {
+        return 0;
+    }
+    v[0]
+}
+
+// Whether one of the rows from a place on is v.
+pub fn is_among(s: &[u8], at: &[usize], off: usize, from: usize, v: &[u8]) -> bool
+    requires { ⌜ Within off (now at) (now s) ⌝ }
+    ensures { λ r. ⌜ r ≡ among (now (v .entry)) (drop from (rows off (now (at .entry)) (now (s .entry)))) ⌝ }
+{
+    let first = first_of(v);
     let mut i = from;
-    while i < n {
-        if row_is(c, i, v) {
-            return true;
+    while i < at.len() {
+        let p = at[i] + off;
+        if s[p] == first {
+            if row_is(s, p, v) {
+                return true;
+            }
         }
         i += 1;
     }
     false
 }
 
-// How many of the rows from a place up to the nth are v.
-pub fn times_in(c: &[u8], from: usize, n: usize, v: &[u8]) -> usize
-    requires { ⌜ 32 * n ≤ length (now c) ⌝ }
-    ensures { λ r. ⌜ r ≡ times (now (v .entry)) (drop from (rows n (now (c .entry)))) ⌝ }
+// How many of the rows from a place on are v.
+pub fn times_in(s: &[u8], at: &[usize], off: usize, from: usize, v: &[u8]) -> usize
+    requires { ⌜ Within off (now at) (now s) ⌝ }
+    ensures { λ r. ⌜ r ≡ times (now (v .entry)) (drop from (rows off (now (at .entry)) (now (s .entry)))) ⌝ }
 {
+    let first = first_of(v);
     let mut k: usize = 0;
     let mut i = from;
-    while i < n {
-        if row_is(c, i, v) {
-            k += 1;
+    while i < at.len() {
+        let p = at[i] + off;
+        if s[p] == first {
+            if row_is(s, p, v) {
+                k += 1;
+            }
         }
         i += 1;
     }
     k
 }
 
-// Whether no two of the first n rows are the same.
-pub fn all_distinct(c: &[u8], n: usize) -> bool
-    requires { ⌜ 32 * n ≤ length (now c) ⌝ }
-    ensures { λ r. ⌜ r ≡ distinct (rows n (now (c .entry))) ⌝ }
+// The row at a place.
+fn row_at(s: &[u8], p: usize) -> &[u8]
+    requires { ⌜ p + 32 ≤ length (now s) ⌝ }
+    ensures { λ r. ⌜ now r ≡ row p (now (s .entry)) ⌝ }
+{
+    let e = p + 32;
+    &s[p..e]
+}
+
+// Whether no two rows are the same.
+pub fn all_distinct(s: &[u8], at: &[usize], off: usize) -> bool
+    requires { ⌜ Within off (now at) (now s) ⌝ }
+    ensures { λ r. ⌜ r ≡ distinct (rows off (now (at .entry)) (now (s .entry))) ⌝ }
 {
     let mut i = 0;
-    while i < n {
-        if is_among(c, i + 1, n, row_at(c, i)) {
+    while i < at.len() {
+        if is_among(s, at, off, i + 1, row_at(s, at[i] + off)) {
             return false;
         }
         i += 1;
@@ -70,15 +105,15 @@ pub fn all_distinct(c: &[u8], n: usize) -> bool
     true
 }
 
-// Whether each of the first n rows stands there at most `most` times. It is enough to count a row from its own place on: the first of its
-// like then counts them all.
-pub fn each_few(c: &[u8], n: usize, most: usize) -> bool
-    requires { ⌜ 32 * n ≤ length (now c) ⌝ }
-    ensures { λ r. ⌜ r ≡ eachFew most (rows n (now (c .entry))) ⌝ }
+// Whether each row stands there at most `most` times. It is enough to count a row from its own place on: the first of its like then counts
+// them all.
+pub fn each_few(s: &[u8], at: &[usize], off: usize, most: usize) -> bool
+    requires { ⌜ Within off (now at) (now s) ⌝ }
+    ensures { λ r. ⌜ r ≡ eachFew most (rows off (now (at .entry)) (now (s .entry))) ⌝ }
 {
     let mut i = 0;
-    while i < n {
-        let k = times_in(c, i, n, row_at(c, i));
+    while i < at.len() {
+        let k = times_in(s, at, off, i, row_at(s, at[i] + off));
         if most < k {
             return false;
         }

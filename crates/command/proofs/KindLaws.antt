@@ -16,7 +16,7 @@ use Rattle.model.specs.Tlv.{Tlv, Field, keyHandle, Listed, getInfo, register, s
 use Rattle.model.proofs.Basics.{split, and-left, and-right, NoneOf, impossible}
 use Rattle.tlv.specs.Numbers.{numAt}
 use Rattle.command.specs.Kinds.{kindIs}
-use Rattle.command.specs.Slots.{commandFields, slots, slotField, placeOf, slotOf, timesFor}
+use Rattle.command.specs.Slots.{commandFields, slots, slotField, placeOf, slotOf, timesFor, rowFor}
 use Rattle.command.specs.Children.{childPasses}
 use Rattle.command.specs.declared.kinds.Kind as code
 use Rattle.command.specs.declared.kinds.Kind.the-variants.{GetInfo, Register, Sign, Deregister, OpenSettings}
@@ -89,34 +89,7 @@ pub slot-tag : (tag : ℕ) → slotOf tag < slots → tagOf (slotField (slotOf t
 unfolding slotOf
 slot-tag tag h = place-tag tag commandFields keyHandle h
 
--- ---- the code's table
-
-abbrev times : ℕ → ℕ → Times
-times least most = record { least = least; most = most }
-
-abbrev never : Times
-never = times 0 0
-
-abbrev optional : Times
-optional = times 0 1
-
-abbrev once : Times
-once = times 1 1
-
--- slot by slot
-abbrev pub table : List Row
-table =
-    (never, once, once, once, once)
-    ∷ (never, optional, optional, optional, never)
-    ∷ (never, once, once, never, never)
-    ∷ (never, once, never, never, never)
-    ∷ (never, once, never, never, never)
-    ∷ (never, never, optional, never, never)
-    ∷ (never, never, never, once, never)
-    ∷ (never, once, once, once, never)
-    ∷ (never, optional, optional, never, never)
-    ∷ (never, never, times 0 8, never, never)
-    ∷ []
+-- ---- how often a field is given
 
 -- what a row says of a command
 abbrev pub column : code.Kind → Row → Times
@@ -126,28 +99,29 @@ column Sign r = r .2
 column Deregister r = r .3
 column OpenSettings r = r .4
 
-columns-are : (k : code.Kind) → map (column k) table ≡ map (timesFor (kindIs k)) commandFields
-unfolding timesFor
-columns-are GetInfo = refl
-columns-are Register = refl
-columns-are Sign = refl
-columns-are Deregister = refl
-columns-are OpenSettings = refl
+column-is : (k : code.Kind) (slot : ℕ) → column k (rowFor slot) ≡ timesFor (kindIs k) (slotField slot)
+column-is GetInfo slot = refl
+column-is Register slot = refl
+column-is Sign slot = refl
+column-is Deregister slot = refl
+column-is OpenSettings slot = refl
+
+-- the arm of a kind, and the row of a slot
+pub times-at : {kind k : code.Kind} (slot : ℕ) {r : Row} → kind ≡ k → r ≡ rowFor slot → column k r ≡ timesFor (kindIs kind) (slotField slot)
+times-at {kind} {k} slot e f = rw (f, e) (column-is k slot)
+
+-- the last row is what remains
+pub row-last : (slot : ℕ) → slot < slots → NotBelow slot 9 → rowFor 9 ≡ rowFor slot
+row-last slot h k =
+    let least : 9 ≤ slot = not-below slot 9 k in
+    let e : slot ≡ 9 = omega arith in
+    rw e
 
 -- the place lies within, so what reading past the end would give is open
 map-at : {A B : Type 0} (f : A → B) (xs : List A) (i : ℕ) (a : A) (b : B) → i < length xs → f (getD xs i a) ≡ getD (map f xs) i b
 map-at f [] i a b h = absurd (omega arith)
 map-at f (x ∷ xs) zero a b h = refl
 map-at f (x ∷ xs) (suc i) a b h = map-at f xs i a b (omega arith)
-
--- what a kind says of a slot's field
-pub times-at : {kind k : code.Kind} (slot : ℕ) (d : Row) → kind ≡ k → slot < slots
-    → column k (getD table slot d) ≡ timesFor (kindIs kind) (slotField slot)
-times-at {kind} {k} slot d e h =
-    map-at (column k) table slot d never h
-    ∙ ap (λ (ts : List Times). getD ts slot never) (columns-are k)
-    ∙ sym (map-at (timesFor (kindIs k)) commandFields slot keyHandle never h)
-    ∙ rw e
 
 -- ---- which fields a command lists
 

@@ -130,6 +130,10 @@ module _ (s : List ℕ) where
 
 -- ---- where its fields stand
 
+empty-list : {A : Type 0} (l : List A) → length l ≡ 0 → l ≡ []
+empty-list [] e = refl
+empty-list (x ∷ l) e = absurd (omega arith)
+
 -- the first value of a slot's field
 placed-at : (s : List ℕ) (r : Slots) → given (children s) ≡ true → SlotsAre s 4 r → (slot : ℕ) → slot < slots
     → Placed s (slotField slot) (getD (r .first) slot noSpan)
@@ -137,6 +141,19 @@ unfolding fieldIn
 placed-at s r g a slot h =
     let i = a .each slot h in
     record { inside = i .inside; value = rw (fields-in s g (slotField slot)) (i .value) }
+
+-- where there are none
+pub none-placed : (s : List ℕ) {at : List Span} → length (fieldsIn keyHandle s) ≡ 0 → HandlesPlaced s (record { at = at; len = 0 })
+unfolding partsIn
+none-placed s e =
+    record {
+      inside = record { few = omega arith; each = λ i h. absurd (omega arith) };
+      values = sym (empty-list (fieldsIn keyHandle s) e);
+    }
+
+-- how many there are
+pub count-handles : (s : List ℕ) (r : Slots) → given (children s) ≡ true → SlotsAre s 4 r → getD (r .times) 9 0 ≡ length (fieldsIn keyHandle s)
+count-handles s r g a = rw (fields-in s g keyHandle) (a .each 9 (lit< tt) .times-are)
 
 -- all key handles
 pub handles-placed : (s : List ℕ) (v : Values) → given (children s) ≡ true → length (fieldsIn keyHandle s) ≤ maxValues

@@ -13,6 +13,7 @@ use Rattle.tlv.specs.Spans.{Inside, noSpan}
 use Rattle.tlv.specs.declared.heads.Span.{Span}
 use Rattle.command.specs.Children.{runFrom}
 use Rattle.command.specs.declared.kinds.Times.{Times}
+use Rattle.command.specs.declared.kinds.Row.{Row}
 use Rattle.command.specs.declared.children.Slots.{Slots}
 
 -- in an order that every command's list keeps
@@ -46,6 +47,17 @@ timesIn (some l) = record { least = l .least; most = l .most }
 -- how often a command must and may be given a field
 unfoldable pub timesFor : model.Kind → model.Field → Times
 timesFor k f = timesIn (listed (fieldsOf k) (tagOf f))
+
+-- how often each of the five must and may be given the field of a slot
+abbrev pub rowFor : ℕ → Row
+rowFor slot =
+    let f = slotField slot in (
+      timesFor model.getInfo f,
+      timesFor model.register f,
+      timesFor model.sign f,
+      timesFor model.deregister f,
+      timesFor model.openSettings f,
+    )
 
 -- a field's values were counted, and the first of them found; where it is not given, an empty part
 pub record SlotIs (s : List ℕ) (vs : List (List ℕ)) (times : ℕ) (first : Span) : Type 0 where

@@ -6,7 +6,7 @@ ghost use Prim.Native.Nat.{_<_};
 ghost use Rattle.model.specs.Tlv.{kindOf};
 ghost use Rattle.fields.specs.Fields.{named};
 ghost use Rattle.command.specs.Kinds.{kindIs, namedAs};
-ghost use Rattle.command.specs.Slots.{slots, slotField, slotOf, timesFor};
+ghost use Rattle.command.specs.Slots.{slots, slotField, slotOf, timesFor, rowFor};
 
 // The five commands.
 pub enum Kind {
@@ -122,25 +122,30 @@ const UP_TO_8: Times = Times { least: 0, most: 8 };
 struct Row(Times, Times, Times, Times, Times);
 
 // The fields of all five commands, slot by slot. A field that a command does not list is never given.
-const LISTED: [Row; SLOTS] = [
-    Row(NEVER, ONCE, ONCE, ONCE, ONCE), // index
-    Row(NEVER, OPTIONAL, OPTIONAL, OPTIONAL, NEVER), // AppID
-    Row(NEVER, ONCE, ONCE, NEVER, NEVER), // challenge hash
-    Row(NEVER, ONCE, NEVER, NEVER, NEVER), // username
-    Row(NEVER, ONCE, NEVER, NEVER, NEVER), // attestation type
-    Row(NEVER, NEVER, OPTIONAL, NEVER, NEVER), // transaction content
-    Row(NEVER, NEVER, NEVER, ONCE, NEVER), // KeyID
-    Row(NEVER, ONCE, ONCE, ONCE, NEVER), // access token
-    Row(NEVER, OPTIONAL, OPTIONAL, NEVER, NEVER), // USERVERIFY_TOKEN
-    Row(NEVER, NEVER, UP_TO_8, NEVER, NEVER), // key handle
-];
+fn listed(slot: usize) -> Row
+    requires { ⌜ slot < slots ⌝ }
+    ensures { λ r. ⌜ r ≡ rowFor slot ⌝ }
+{
+    match slot {
+        INDEX => Row(NEVER, ONCE, ONCE, ONCE, ONCE),
+        APP_ID => Row(NEVER, OPTIONAL, OPTIONAL, OPTIONAL, NEVER),
+        CHALLENGE_HASH => Row(NEVER, ONCE, ONCE, NEVER, NEVER),
+        USERNAME => Row(NEVER, ONCE, NEVER, NEVER, NEVER),
+        ATTESTATION_TYPE => Row(NEVER, ONCE, NEVER, NEVER, NEVER),
+        TRANSACTION_CONTENT => Row(NEVER, NEVER, OPTIONAL, NEVER, NEVER),
+        KEY_ID => Row(NEVER, NEVER, NEVER, ONCE, NEVER),
+        ACCESS_TOKEN => Row(NEVER, ONCE, ONCE, ONCE, NEVER),
+        USER_VERIFY_TOKEN => Row(NEVER, OPTIONAL, OPTIONAL, NEVER, NEVER),
+        _ => Row(NEVER, NEVER, UP_TO_8, NEVER, NEVER),
+    }
+}
 
 // How often a command must and may be given the field of a slot.
 pub fn times_of(kind: Kind, slot: usize) -> Times
     requires { ⌜ slot < slots ⌝ }
     ensures { λ r. ⌜ r ≡ timesFor (kindIs kind) (slotField slot) ⌝ }
 {
-    let row = LISTED[slot];
+    let row = listed(slot);
     match kind {
         Kind::GetInfo => row.0,
         Kind::Register => row.1,

@@ -19,11 +19,17 @@ ghost use Rattle.model.specs.Tlv.{keyHandle, children, fieldsIn};
 ghost use Rattle.command.specs.Kinds.{kindIs};
 ghost use Rattle.command.specs.Parse.{HandlesPlaced, noFields, FieldsRead};
 
-// Where the key handles stand.
-fn handles_in(s: &[u8]) -> Spans
-    requires { ⌜ (given (children (now s)) ≡ true) × (length (fieldsIn keyHandle (now s)) ≤ 8) ⌝ }
+// Where the key handles stand, of which there are n: nothing is looked for where there are none.
+fn handles_in(s: &[u8], n: usize) -> Spans
+    requires { ⌜ (given (children (now s)) ≡ true) × (n ≡ length (fieldsIn keyHandle (now s))) × (n ≤ 8) ⌝ }
     ensures { λ r. ⌜ HandlesPlaced (now (s .entry)) r ⌝ }
 {
+    if n == 0 {
+        return Spans {
+            at: [NO_SPAN; 8],
+            len: 0,
+        };
+    }
     let v = values_of(s, 4, Field::KeyHandle);
     let at = v.at;
     Spans { at, len: v.times }
@@ -80,7 +86,7 @@ pub fn fields_of(s: &[u8], kind: Kind) -> Fields
     if !times_ok(given, kind) {
         return no_fields();
     }
-    let handles = handles_in(s);
+    let handles = handles_in(s, given.times[kinds::KEY_HANDLE]);
     Fields {
         broken: false,
         app_id: given.first[kinds::APP_ID],

@@ -24,10 +24,7 @@ use Rattle.tlv.proofs.WriteLaws.{front}
 use Rattle.tlv.specs.declared.heads.Span.{Span}
 use Rattle.command.specs.Parse.{Placed, FieldsPlaced, FieldsRead}
 use Rattle.command.specs.declared.parse.Fields.{Fields}
-use Rattle.key_table.specs.Views.{viewTable}
 use Rattle.key_table.specs.Changes.{removal}
-use Rattle.key_table.specs.declared.records.Table.{Table}
-use Rattle.key_table.proofs.ViewLaws.{length-view}
 use Rattle.responses.specs.Lent.{lentRegister}
 use Rattle.responses.specs.Writes.{krd}
 use Rattle.decisions.specs.Answers.{changeOf, Answered, Can, Decided, Keeps, StatusAlone}
@@ -73,14 +70,14 @@ judge-passes cs says passed e = passes cs says passed (judge-passed cs e)
 
 module _ {k : Kind} {n : ℕ} {c : Change} {d : model.Decision} {out out′ : List ℕ} {r : Decision} where
   -- with a change that can be made
-  pub status-decided : {s key m : List ℕ} {t : Table} → StatusAlone k n c out out′ r → Can s key m t c
-      → d ≡ only k (changeOf s key (viewTable t) c) n → Decided s key m t d out out′ r
+  pub status-decided : {s key m : List ℕ} {t : records.Table} → StatusAlone k n c out out′ r → Can s key m t c
+      → d ≡ only k (changeOf s key t c) n → Decided s key m t d out out′ r
   unfolding only
   status-decided {s} {key} {m} {t} p can e =
       rw e
       (record {
         answered = p .answered;
-        change = ap (changeOf s key (viewTable t)) (p .change);
+        change = ap (changeOf s key t) (p .change);
         can = subst (λ (x : Change). Can s key m t x) (sym (p .change)) can;
       })
 
@@ -155,16 +152,15 @@ unfolding registerDraft krd
 register-draft s a n m key public = simp append-assoc
 
 -- the draft was written, and the change adds the name
-pub registered : (s a : List ℕ) (n : Numbers) (m key public c : List ℕ) (t : Table) (taken : Bool) {f : Fields} {j : Judged}
+pub registered : (s a : List ℕ) (n : Numbers) (m key public c : List ℕ) (t : records.Table) (taken : Bool) {f : Fields} {j : Judged}
     {out out′ : List ℕ} {i r : ℕ} → FieldsRead register s f
-    → j ≡ judge (registerList s n m key (own m (viewTable t)) taken (leb maxRecords (length (viewTable t)))) Fails Passes → j ≡ Passes
+    → j ≡ judge (registerList s n m key (own m t) taken (leb maxRecords (length t))) Fails Passes → j ≡ Passes
     → length m ≡ 32 → length key ≡ 32 → c ≡ part s (f .«challenge_hash») → Wrote out 0 (krd a n c key public) i out′ r
-    → Decided s key m t
-    (decideRegister s (lentRegister a n m key public) (own m (viewTable t)) taken (leb maxRecords (length (viewTable t))))
+    → Decided s key m t (decideRegister s (lentRegister a n m key public) (own m t) taken (leb maxRecords (length t)))
     out out′ (record { answer = Draft r; change = Add (f .username) })
 registered s a n m key public c t taken {f} q e o h k g w =
-    let mine : records.Table = own m (viewTable t) in
-    let filled : Bool = leb maxRecords (length (viewTable t)) in
+    let mine : records.Table = own m t in
+    let filled : Bool = leb maxRecords (length t) in
     let b : broken register s ≡ false = register-unbroken s n m key mine taken filled e o in
     let p : FieldsPlaced s f = q .unless-broken b in
     let d : krd a n c key public ≡ registerDraft s (lentRegister a n m key public) =
@@ -179,7 +175,7 @@ registered s a n m key public c t taken {f} q e o h k g w =
             short = placed-short register username b refl (p .username);
             key-id = k;
             mixed = h;
-            place = omega (arith, length-view t, leb-false maxRecords (length (viewTable t)) (register-room s n m key mine taken filled e o));
+            place = omega (arith, leb-false maxRecords (length t) (register-room s n m key mine taken filled e o));
           };
     })
 

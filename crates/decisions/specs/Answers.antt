@@ -13,10 +13,8 @@ use Rattle.model.specs.Commands.{statusOnly, bytesOf, over}
 use Rattle.tlv.specs.Heads.{part}
 use Rattle.tlv.specs.Spans.{Inside}
 use Rattle.tlv.specs.declared.heads.Span.{Span}
-use Rattle.key_table.specs.Views.{viewRecord, viewTable, noRecord}
+use Rattle.key_table.specs.Views.{noRecord}
 use Rattle.key_table.specs.Changes.{removal}
-use Rattle.key_table.specs.declared.records.Record.{Record}
-use Rattle.key_table.specs.declared.records.Table.{Table}
 use Rattle.decisions.specs.declared.answers.Answer.{Answer}
 use Rattle.decisions.specs.declared.answers.Answer.the-variants.{Response, Draft}
 use Rattle.decisions.specs.declared.answers.Change.{Change}
@@ -41,32 +39,32 @@ changeOf s k t (SetCount i n) = model.setCount (getD t i noRecord .keyId) n
 changeOf s k t (Remove p) = removal (part s p)
 
 -- that it can be made
-pub record CanAdd (s k m : List ℕ) (t : Table) (p : Span) : Type 0 where
+pub record CanAdd (s k m : List ℕ) (t : records.Table) (p : Span) : Type 0 where
   pub inside : Inside s p
   pub short : length (part s p) ≤ 128
   pub key-id : length k ≡ 32
   pub mixed : length m ≡ 32
-  pub place : t .len < 32
+  pub place : length t < 32
 
-pub record CanCount (m : List ℕ) (t : Table) (i : ℕ) : Type 0 where
-  pub row : i < t .len
-  pub mine : hasMixed m (getD (viewTable t) i noRecord) ≡ true
+pub record CanCount (m : List ℕ) (t : records.Table) (i : ℕ) : Type 0 where
+  pub row : i < length t
+  pub mine : hasMixed m (getD t i noRecord) ≡ true
 
-abbrev pub Can : List ℕ → List ℕ → List ℕ → Table → Change → Type 0
+abbrev pub Can : List ℕ → List ℕ → List ℕ → records.Table → Change → Type 0
 Can s k m t Keep = Unit {0}
 Can s k m t (Add p) = CanAdd s k m t p
 Can s k m t (SetCount i n) = CanCount m t i
 Can s k m t (Remove p) = Inside s p
 
 -- a command s, lent the KeyID k and the mixed token m, decided so on a table
-pub record Decided (s k m : List ℕ) (t : Table) (d : model.Decision) (out out′ : List ℕ) (r : Decision) : Type 0 where
+pub record Decided (s k m : List ℕ) (t : records.Table) (d : model.Decision) (out out′ : List ℕ) (r : Decision) : Type 0 where
   pub answered : Answered (d .answer) out out′ (r .answer)
-  pub change : changeOf s k (viewTable t) (r .change) ≡ d .change
+  pub change : changeOf s k t (r .change) ≡ d .change
   pub can : Can s k m t (r .change)
 
--- the same on every table that has this record in this row
-pub record DecidedAt (s : List ℕ) (row : ℕ) (r : Record) (d : model.Decision) (out out′ : List ℕ) (e : Decision) : Type 0 where
-  pub decided : (k m : List ℕ) (t : Table) → getD (viewTable t) row noRecord ≡ viewRecord r → CanCount m t row
+-- the same on every table in which this is record i
+pub record DecidedAt (s : List ℕ) (i : ℕ) (r : records.Record) (d : model.Decision) (out out′ : List ℕ) (e : Decision) : Type 0 where
+  pub decided : (k m : List ℕ) (t : records.Table) → getD t i noRecord ≡ r → CanCount m t i
       → Decided s k m t d out out′ e
 
 -- a command that changes nothing decided so

@@ -5,8 +5,7 @@ use crate::statuses::only;
 use command::kinds::Kind;
 use command::parse::Fields;
 use command::parse::fields_of;
-use key_table::lookups::is_own;
-use key_table::records::Table;
+use lookups::is_own;
 use responses::status::ACCESS_DENIED;
 use responses::status::OK;
 use responses::status::PARAMS_INVALID;
@@ -19,16 +18,16 @@ ghost use Rattle.model.specs.Tlv.{deregister};
 ghost use Rattle.model.specs.Records.{own};
 ghost use Rattle.model.specs.Commands.{judge, deregisterChecks, decideDeregister, leastOutput};
 ghost use Rattle.command.specs.Parse.{FieldsRead};
-ghost use Rattle.key_table.specs.Views.{viewTable};
+ghost use Rattle.stored_table.specs.Stored.{Indexed, tableIn};
 ghost use Rattle.decisions.specs.Answers.{Decided};
 ghost use Rattle.decisions.specs.declared.answers.Judged.the-variants.{Fails, Passes};
 
 // Deregister's statuses in their order: a rule broken, then a KeyID that is not the caller's. An empty one always passes.
-fn judge_deregister(s: &[u8], f: Fields, mixed: &[u8], t: Table) -> Judged
+fn judge_deregister(s: &[u8], f: Fields, mixed: &[u8], b: &[u8], at: &[usize]) -> Judged
     requires { ⌜ FieldsRead deregister (now s) f ⌝ }
-    requires { ⌜ t .len ≤ 32 ⌝ }
+    requires { ⌜ Indexed (now b) (now at) ⌝ }
     ensures { λ r. ⌜
-        r ≡ judge (deregisterChecks (now (s .entry)) (own (now (mixed .entry)) (viewTable t))) Fails Passes ⌝ }
+        r ≡ judge (deregisterChecks (now (s .entry)) (own (now (mixed .entry)) (tableIn (now (b .entry))))) Fails Passes ⌝ }
 {
     if f.broken {
         return Judged::Fails(PARAMS_INVALID);
@@ -37,22 +36,22 @@ fn judge_deregister(s: &[u8], f: Fields, mixed: &[u8], t: Table) -> Judged
     if key.start == key.end {
         return Judged::Passes;
     }
-    if !is_own(t, mixed, part_of(s, key)) {
+    if !is_own(b, at, mixed, part_of(s, key)) {
         return Judged::Fails(ACCESS_DENIED);
     }
     Judged::Passes
 }
 
 // Deregister: a status, and OK with one record removed or all of the mixed token's.
-pub fn deregister(s: &[u8], mixed: &[u8], t: Table, out: &mut [u8]) -> Decision
-    requires { ⌜ t .len ≤ 32 ⌝ }
+pub fn deregister(s: &[u8], mixed: &[u8], b: &[u8], at: &[usize], out: &mut [u8]) -> Decision
+    requires { ⌜ Indexed (now b) (now at) ⌝ }
     requires { ⌜ leastOutput ≤ length (now out) ⌝ }
     ensures { λ r. ⌜
-        ((k : List ℕ) → Decided (now (s .entry)) k (now (mixed .entry)) t (decideDeregister (now (s .entry))
-        (own (now (mixed .entry)) (viewTable t))) (now (out .entry)) (now (out .exit)) r) ⌝ }
+        ((k : List ℕ) → Decided (now (s .entry)) k (now (mixed .entry)) (tableIn (now (b .entry))) (decideDeregister (now (s .entry))
+        (own (now (mixed .entry)) (tableIn (now (b .entry))))) (now (out .entry)) (now (out .exit)) r) ⌝ }
 {
     let f = fields_of(s, Kind::Deregister);
-    let judged = judge_deregister(s, f, mixed, t);
+    let judged = judge_deregister(s, f, mixed, b, at);
     match judged {
         Judged::Fails(status) => only(out, Kind::Deregister, status, Change::Keep),
         Judged::Passes => {

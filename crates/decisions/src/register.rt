@@ -8,11 +8,10 @@ use command::kinds::Kind;
 use command::parse::Fields;
 use command::parse::fields_of;
 use fields::tags;
-use key_table::lookups::is_stored;
-use key_table::lookups::own_count;
-use key_table::records::Table;
 use key_table::rules::MAX_OWN;
 use key_table::rules::MAX_RECORDS;
+use lookups::is_stored;
+use lookups::own_count;
 use responses::drafts::put_krd;
 use responses::lent::Numbers;
 use responses::status::ATTESTATION_NOT_SUPPORTED;
@@ -32,7 +31,7 @@ ghost use Rattle.model.specs.Tlv.{register, full, surrogate};
 ghost use Rattle.model.specs.Records.{own, keyIds, maxRecords};
 ghost use Rattle.model.specs.Commands.{judge, registerChecks, decideRegister, leastOutput};
 ghost use Rattle.command.specs.Parse.{FieldsRead};
-ghost use Rattle.key_table.specs.Views.{viewTable};
+ghost use Rattle.stored_table.specs.Stored.{Indexed, tableIn};
 ghost use Rattle.responses.specs.Lent.{lentRegister};
 ghost use Rattle.decisions.specs.Answers.{Decided};
 ghost use Rattle.decisions.specs.declared.answers.Judged.the-variants.{Fails, Passes};
@@ -54,14 +53,15 @@ fn judge_register(
     numbers: Numbers,
     mixed: &[u8],
     key_id: &[u8],
-    t: Table,
+    b: &[u8],
+    at: &[usize],
 ) -> Judged
     requires { ⌜ FieldsRead register (now s) f ⌝ }
-    requires { ⌜ t .len ≤ 32 ⌝ }
+    requires { ⌜ Indexed (now b) (now at) ⌝ }
     ensures { λ r. ⌜
         r ≡ judge (registerChecks (now (s .entry)) (lentRegister [] numbers (now (mixed .entry)) (now («key_id» .entry)) [])
-        (own (now (mixed .entry)) (viewTable t))
-        (among (now («key_id» .entry)) (keyIds (viewTable t))) (leb maxRecords (length (viewTable t)))) Fails Passes ⌝ }
+        (own (now (mixed .entry)) (tableIn (now (b .entry))))
+        (among (now («key_id» .entry)) (keyIds (tableIn (now (b .entry))))) (leb maxRecords (length (tableIn (now (b .entry)))))) Fails Passes ⌝ }
 {
     if f.broken {
         return Judged::Fails(PARAMS_INVALID);
@@ -72,13 +72,13 @@ fn judge_register(
     if !is_supported(get16(s, f.attestation_type.start)) {
         return Judged::Fails(ATTESTATION_NOT_SUPPORTED);
     }
-    if is_stored(t, key_id) {
+    if is_stored(b, at, key_id) {
         return Judged::Fails(ERR_UNKNOWN);
     }
-    if MAX_OWN <= own_count(t, mixed) {
+    if MAX_OWN <= own_count(b, at, mixed) {
         return Judged::Fails(INSUFFICIENT_RESOURCES);
     }
-    if MAX_RECORDS <= t.len {
+    if MAX_RECORDS <= at.len() {
         return Judged::Fails(INSUFFICIENT_RESOURCES);
     }
     Judged::Passes
@@ -92,21 +92,22 @@ pub fn register(
     mixed: &[u8],
     key_id: &[u8],
     public_key: &[u8],
-    t: Table,
+    b: &[u8],
+    at: &[usize],
     out: &mut [u8],
 ) -> Decision
     requires { ⌜ (length (now aaid) ≡ 9) × (length (now mixed) ≡ 32) × (length (now «key_id») ≡ 32) × (length (now «public_key») ≤ 512) ⌝ }
-    requires { ⌜ t .len ≤ 32 ⌝ }
+    requires { ⌜ Indexed (now b) (now at) ⌝ }
     requires { ⌜ leastOutput ≤ length (now out) ⌝ }
     ensures { λ r. ⌜
-        Decided (now (s .entry)) (now («key_id» .entry)) (now (mixed .entry)) t (decideRegister (now (s .entry))
+        Decided (now (s .entry)) (now («key_id» .entry)) (now (mixed .entry)) (tableIn (now (b .entry))) (decideRegister (now (s .entry))
         (lentRegister (now (aaid .entry)) numbers (now (mixed .entry)) (now («key_id» .entry)) (now («public_key» .entry)))
-        (own (now (mixed .entry)) (viewTable t))
-        (among (now («key_id» .entry)) (keyIds (viewTable t))) (leb maxRecords (length (viewTable t))))
+        (own (now (mixed .entry)) (tableIn (now (b .entry))))
+        (among (now («key_id» .entry)) (keyIds (tableIn (now (b .entry))))) (leb maxRecords (length (tableIn (now (b .entry))))))
         (now (out .entry)) (now (out .exit)) r ⌝ }
 {
     let f = fields_of(s, Kind::Register);
-    let judged = judge_register(s, f, numbers, mixed, key_id, t);
+    let judged = judge_register(s, f, numbers, mixed, key_id, b, at);
     match judged {
         Judged::Fails(status) => only(out, Kind::Register, status, Change::Keep),
         Judged::Passes => {

@@ -2,27 +2,22 @@
 -- Assumes nothing.
 use mathlib.Core.Path.{_≡_, refl, ap, _∙_}
 use mathlib.Core.Bool.{Bool, true, false, _&&_, and-true}
-use mathlib.Core.List.{List, [], _∷_, map}
+use mathlib.Core.List.{List, _∷_}
 use Prim.Native.Nat.{ℕ, _≤_, _<_}
 use native.Mathlib.Omega.{arith}
 use lib.ListN.{length, take, drop, getD, drop-of-length-le}
 use borrow.Author.Tests.{le-leb, lt-leb}
-use lib.Dec.{leb}
-use Rattle.model.specs.Lists.{all, distinct}
+use Rattle.model.specs.Lists.{all}
 use Rattle.model.specs.Tlv.{fits, keyId, mixedToken, username}
 use Rattle.model.specs.Records as model
-use Rattle.model.specs.Records.{recordOk, own, tableOk, maxCount, maxRecords, maxOwn}
+use Rattle.model.specs.Records.{recordOk, tableOk, maxCount}
 use Rattle.model.proofs.LayoutLaws.{size-fits}
 use Rattle.model.proofs.Rules.{obeys-rules}
-use Rattle.columns.specs.Columns.{times, eachFew}
 use Rattle.columns.specs.Firsts.{firsts}
 use Rattle.columns.proofs.FirstLaws.{firsts-take, length-firsts}
 use Rattle.key_table.specs.Views.{viewRecord, viewTable, noRow}
-use Rattle.key_table.specs.Cells.{cellOf}
-use Rattle.key_table.specs.declared.cells.Cell.the-variants.{KeyId, Mixed}
 use Rattle.key_table.specs.declared.records.Record.{Record}
 use Rattle.key_table.specs.declared.records.Table.{Table}
-use Rattle.key_table.proofs.LookupLaws.{times-own}
 use Rattle.key_table.proofs.ViewLaws.{length-view, row-at}
 
 -- ---- a test of each element, from a place on
@@ -64,18 +59,6 @@ module _ (r : Record) (typed : Typed r) where
   name-within h = name-decides ∙ ap (fits username) (firsts-take 0 (r .«name_len») (r .name) (omega arith))
 
 -- ---- a table
-
--- each mixed token has few records, by the records and by their column
-each-own : (n : ℕ) (t rs : model.Table)
-    → all (λ c. leb (times c (map (cellOf Mixed) t)) n) (map (cellOf Mixed) rs) ≡ all (λ r. leb (length (own (r .mixed) t)) n) rs
-each-own n t [] = refl
-each-own n t (r ∷ rs) = rw (times-own (r .mixed) t, each-own n t rs)
-
--- the rules in the order in which they are tested, the first that fails being false
-pub few-decides : (t : model.Table) → tableOk t
-    ≡ (leb (length t) maxRecords && all recordOk t && eachFew maxOwn (map (cellOf Mixed) t) && distinct (map (cellOf KeyId) t))
-unfolding tableOk eachFew
-few-decides t = rw (each-own maxOwn t t)
 
 -- what the rules say of a table by value: the rows that it has, and a name's length
 module _ (t : Table) (ok : tableOk (viewTable t) ≡ true) where

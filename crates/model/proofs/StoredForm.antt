@@ -1,7 +1,7 @@
 -- The stored form, both ways.
 -- Assumes nothing.
 use mathlib.Core.Path.{_≡_, refl, sym, ap, _∙_}
-use mathlib.Core.Bool.{Bool, true, _&&_}
+use mathlib.Core.Bool.{Bool, true, cond, _&&_}
 use mathlib.Core.List.{List, [], _∷_, map}
 use mathlib.Core.Option.{Option, none, some, bind}
 use Prim.Native.Nat.{ℕ, zero, suc, _*_, _/_, _≤_}
@@ -108,13 +108,18 @@ stored-gives (r ∷ t) e =
       same = cc (stored-record r h);
     }
 
+-- what the stored form of records that obey their rules gives: the table, if it obeys the rest
+pub decode-encoded : (t : Table) → all recordOk t ≡ true → decode (encode t) ≡ cond (tableOk t) (some t) none
+unfolding decode
+decode-encoded t o =
+    let g = stored-gives t o in
+    rw (bytes-stored t, tlvs-bytes (stored t) (g .sized), g .match, g .same)
+
 -- decode of encode is the table
 pub decode-encode : (t : Table) → tableOk t ≡ true → decode (encode t) ≡ some t
-unfolding decode
 decode-encode t e =
     let o : all recordOk t ≡ true = unfold tableOk in search (and-left, and-right) in
-    let g = stored-gives t o in
-    rw (bytes-stored t, tlvs-bytes (stored t) (g .sized), g .match, g .same, e)
+    decode-encoded t o ∙ rw e
 
 -- ---- the table of which bytes are the stored form
 

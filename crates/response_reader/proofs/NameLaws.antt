@@ -3,11 +3,11 @@
 use mathlib.Core.Path.{_≡_, refl, sym, ap, _∙_}
 use mathlib.Core.Bool.{Bool, true, false, not, _&&_, _||_, and-false}
 use mathlib.Core.List.{List, [], _∷_, _++_, append-assoc, append-nil}
-use Prim.Native.Nat.{ℕ, zero, suc, _+_, _-_, _*_, _≤_, _<_}
+use Prim.Native.Nat.{ℕ, zero, suc, _+_, _-_, _≤_, _<_}
 use native.Mathlib.Numerals.{add-one}
 use native.Mathlib.Omega.{arith}
-use lib.ListN.{length, drop, take-append-drop}
-use lib.Seq.{drop-drop}
+use lib.ListN.{length, take, drop, set, length-set, take-append-drop}
+use lib.Seq.{drop-drop, take-suc-set}
 use lib.Dec.{leb, eqb}
 use borrow.Author.Tests.{leb-true, leb-false, eqb-true, eqb-false, le-leb, lt-leb, eq-eqb, ne-eqb}
 use Rattle.model.specs.Lists.{any, select, distinct}
@@ -20,10 +20,9 @@ use Rattle.model.proofs.LayoutLaws.{fits-least, fits-most}
 use Rattle.model.proofs.PartLaws.{honest}
 use Rattle.model.proofs.ResponseWitness.{rows-plain}
 use Rattle.tlv.specs.Heads.{between}
-use Rattle.tlv.specs.Writing.{splice, Wrote}
 use Rattle.tlv.proofs.HeadLaws.{IsTlv, head-end, length-part}
-use Rattle.columns.specs.Columns.{rows}
-use Rattle.columns.proofs.ColumnLaws.{rows-splice}
+use Rattle.columns.specs.Columns.{rows, row, Within}
+use Rattle.columns.proofs.ColumnLaws.{rows-more, within-more}
 use Rattle.layouts.specs.Places.{nowhere, readsAt, afterField, inGroup, afterGroup}
 use Rattle.layouts.proofs.PlaceLaws.{past-head, read-end, read-group, then-field, then-last, from-front, in-before, group-before, field-before}
 use Rattle.layouts.proofs.SizeLaws.{Layered, nothing, one, layered, length-front, parts-front, parts-nothing}
@@ -77,7 +76,7 @@ met-inside {s} {at} {tag} {start} {to} n l i h k e =
 -- a pair ends with its key handle
 pub record IsPair (s : List ℕ) (at to : ℕ) : Type 0 where
   pub long : 32 ≤ to
-  pub key : handlesFrom s at ≡ between s (to - 32) to ∷ handlesFrom s to
+  pub key : handlesFrom s at ≡ row (to - 32) s ∷ handlesFrom s to
 
 pub pair-is : {s : List ℕ} {at to : ℕ} → to ≡ afterPair s at → to ≤ length s → IsPair s at to
 unfolding handlesFrom
@@ -89,10 +88,9 @@ pair-is {s} {at} {to} e h =
     let p = pair-parts start (layered pairFields v (g .1)) in
     let n : length v ≡ to - start = length-part (record { ordered = i .ordered; within = h }) in
     let x : start + length v - 32 ≡ to - 32 = omega (arith, i) in
-    let y : to - (to - 32) ≡ 32 = omega (arith, p .0) in
     record {
       long = omega (arith, p .0);
-      key = rw (met-inside 1 pairFields i refl refl (g .1), handles-append (partsAt 1 start v) (met s to), p .1, x, y);
+      key = rw (met-inside 1 pairFields i refl refl (g .1), handles-append (partsAt 1 start v) (met s to), p .1, x);
     }
 
 -- ---- pairs from a place on
@@ -138,75 +136,84 @@ exactly n m =
     (λ d. let k : m ≡ n → ⊥ = eqb-false _ _ d in rw d (ne-eqb (m - n) 0 (λ z. k (omega arith))))))
     (λ e. let h : m < n = leb-false _ _ e in rw e (sym (ne-eqb m n (λ z. omega arith))))
 
--- n pairs lie from a place up to another, and nothing else; their key handles are the rows of a column
-pub record Keyed (s : List ℕ) (from : ℕ) (column : List ℕ) (n at : ℕ) : Type 0 where
+-- n pairs lie from a place up to another, and nothing else; their key handles are the rows at the first n of some places
+pub record Keyed (s : List ℕ) (from : ℕ) (at : List ℕ) (n place : ℕ) : Type 0 where
   pub few : n ≤ 8
-  pub sized : length column ≡ 256
-  pub number : (m : ℕ) → readsAt (nameRows m) s from ≡ (leb n m && readsAt (nameRows (m - n)) s at)
-  pub keys : handlesFrom s from ≡ rows n column ++ handlesFrom s at
+  pub sized : length at ≡ 8
+  pub number : (m : ℕ) → readsAt (nameRows m) s from ≡ (leb n m && readsAt (nameRows (m - n)) s place)
+  pub within : Within 0 (take n at) s
+  pub keys : handlesFrom s from ≡ rows 0 (take n at) s ++ handlesFrom s place
 
-pub keyed-none : (s : List ℕ) (from : ℕ) (column : List ℕ) → length column ≡ 256 → Keyed s from column 0 from
+none-within : (s : List ℕ) → Within 0 [] s
+none-within s = record { each = λ i h. absurd (omega arith) }
+
+pub keyed-none : (s : List ℕ) (from : ℕ) (at : List ℕ) → length at ≡ 8 → Keyed s from at 0 from
 unfolding rows
-keyed-none s from column h =
+keyed-none s from at h =
     record {
       few = omega arith;
       sized = h;
       number = λ m. let x : m - 0 ≡ m = omega arith in rw (le-leb 0 m (omega arith), x);
+      within = none-within s;
       keys = refl;
     }
 
 -- a stretch that at most eight pairs do not fill
-not-keyed : {s column : List ℕ} {from : ℕ} → ((m : ℕ) → m < 8 → readsAt (nameRows (suc m)) s from ≡ false)
-    → KeysAre s from (record { column = column; len = 0 })
-not-keyed f =
+not-keyed : {s at : List ℕ} {from : ℕ} → ((m : ℕ) → m < 8 → readsAt (nameRows (suc m)) s from ≡ false)
+    → KeysAre s from (record { at = at; len = 0 })
+not-keyed {s} f =
     record {
       few = omega arith;
       number = λ m h. f m h ∙ sym (ne-eqb (suc m) 0 (λ z. omega arith));
+      within = none-within s;
       keys = λ h. absurd (omega arith);
     }
 
-module _ {s column : List ℕ} {from n at : ℕ} (i : Keyed s from column n at) where
+module _ {s at : List ℕ} {from n place : ℕ} (i : Keyed s from at n place) where
   -- a pair more
-  pub keyed-next : {to r : ℕ} {column′ : List ℕ} → (at ≡ length s → ⊥) → to ≡ afterPair s at
-      → to ≤ length s → n < 8 → Wrote column (32 * n) (between s (to - 32) to) (length (between s (to - 32) to)) column′ r
-      → length column′ ≡ length column → Keyed s from column′ (n + 1) to
-  keyed-next {to} {r} {column′} h e l k w z =
+  pub keyed-next : {to : ℕ} → (place ≡ length s → ⊥) → to ≡ afterPair s place → to ≤ length s → n < 8
+      → Keyed s from (set at n (to - 32)) (n + 1) to
+  keyed-next {to} h e l k =
       let p = pair-is e l in
-      let key : List ℕ = between s (to - 32) to in
-      let size : length key ≡ 32 = length-part (record { ordered = omega arith; within = l }) ∙ omega (arith, p) in
-      let q : rows (suc n) (splice (32 * n) key column) ≡ rows n column ++ (key ∷ []) =
-      rows-splice n key column size (omega (arith, i)) in
+      let t : take (n + 1) (set at n (to - 32)) ≡ take n at ++ ((to - 32) ∷ []) =
+      rw add-one (take-suc-set at n (to - 32) (omega (arith, i .sized))) in
+      let y : to - 32 + 0 ≡ to - 32 = omega arith in
       record {
         few = omega arith;
-        sized = z ∙ i .sized;
-        number = λ m. let x : m - n - 1 ≡ m - (n + 1) = omega arith in i .number m ∙ rw (pairs-next s at h e (m - n), x) (more n m _);
-        keys = i .keys ∙ rw (p .key, add-one, w .bytes, q) (sym (append-assoc (rows n column) (key ∷ []) (handlesFrom s to)));
+        sized = length-set at n (to - 32) ∙ i .sized;
+        number = λ m. let x : m - n - 1 ≡ m - (n + 1) = omega arith in i .number m ∙ rw (pairs-next s place h e (m - n), x) (more n m _);
+        within = rw t (within-more 0 (take n at) s (to - 32) (i .within) (omega (arith, p .long)));
+        keys =
+            i .keys
+            ∙ rw (p .key, t, rows-more 0 (take n at) s (to - 32), y)
+            (sym (append-assoc (rows 0 (take n at) s) (row (to - 32) s ∷ []) (handlesFrom s to)));
       }
 
   -- all of them
-  pub keyed-all : at ≡ length s → KeysAre s from (record { column = column; len = n })
+  pub keyed-all : place ≡ length s → KeysAre s from (record { at = at; len = n })
   unfolding handlesFrom
   keyed-all e =
       record {
         few = i .few;
-        number = λ m h. i .number (suc m) ∙ rw (pairs-end s at (suc m - n) e) (exactly n (suc m));
+        number = λ m h. i .number (suc m) ∙ rw (pairs-end s place (suc m - n) e) (exactly n (suc m));
+        within = i .within;
         keys =
             λ h.
-            let g : met s at ≡ [] = met-end s at (head-end s at (omega arith)) in
-            i .keys ∙ rw g (append-nil (rows n column));
+            let g : met s place ≡ [] = met-end s place (head-end s place (omega arith)) in
+            i .keys ∙ rw g (append-nil (rows 0 (take n at) s));
       }
 
   -- something else than pairs
-  pub keyed-bad : {to : ℕ} → (at ≡ length s → ⊥) → to ≡ afterPair s at → length s < to
-      → KeysAre s from (record { column = column; len = 0 })
-  keyed-bad h e l = not-keyed (λ m k. i .number (suc m) ∙ rw (pairs-bad s at h e l (suc m - n)) (and-false (leb n (suc m))))
+  pub keyed-bad : {to : ℕ} → (place ≡ length s → ⊥) → to ≡ afterPair s place → length s < to
+      → KeysAre s from (record { at = at; len = 0 })
+  keyed-bad h e l = not-keyed (λ m k. i .number (suc m) ∙ rw (pairs-bad s place h e l (suc m - n)) (and-false (leb n (suc m))))
 
   -- more than eight
-  pub keyed-more : 8 ≤ n → (at ≡ length s → ⊥) → KeysAre s from (record { column = column; len = 0 })
+  pub keyed-more : 8 ≤ n → (place ≡ length s → ⊥) → KeysAre s from (record { at = at; len = 0 })
   keyed-more k h =
       not-keyed
       (λ m l. let x : suc m - n ≡ 0 = omega arith in
-      i .number (suc m) ∙ rw (x, read-end s at, ne-eqb at (length s) h) (and-false (leb n (suc m))))
+      i .number (suc m) ∙ rw (x, read-end s place, ne-eqb place (length s) h) (and-false (leb n (suc m))))
 
 -- ---- the whole list
 
@@ -249,7 +256,7 @@ module _ (s : List ℕ) {a b : ℕ} (ea : a ≡ inGroup (responseTag sign) s 0) 
 
     -- where `two` says whether there are two names or more
     pub list-distinct : (two : Bool) → leb 2 (r .len) ≡ two
-        → (any (λ n. reads (nameList n) s) listLengths && distinct (listedKeys s)) ≡ (two && distinct (rows (r .len) (r .column)))
+        → (any (λ n. reads (nameList n) s) listLengths && distinct (listedKeys s)) ≡ (two && distinct (rows 0 (take (r .len) (r .at)) s))
     list-distinct true e =
         let h : 2 ≤ r .len = leb-true _ _ e in
         let y : reads (nameList (r .len)) s ≡ true = list-is (r .len) h (omega (arith, k .few)) ∙ eq-eqb (r .len) (r .len) refl in

@@ -3,12 +3,13 @@ use mathlib.Core.Path.{_≡_}
 use Prim.Native.Nat.{ℕ, suc, _≤_, _<_}
 use mathlib.Core.Bool.{not}
 use mathlib.Core.List.{List, map}
+use lib.ListN.{take}
 use lib.Dec.{eqb}
 use Rattle.model.specs.Lists.{select}
 use Rattle.model.specs.Tlv.{ok, assertionTag}
 use Rattle.model.specs.Commands.{nameRows}
 use Rattle.model.specs.Reader.{Part, holds, cut, isHandle}
-use Rattle.columns.specs.Columns.{rows}
+use Rattle.columns.specs.Columns.{rows, Within}
 use Rattle.layouts.specs.Places.{readsAt, afterField, inGroup}
 use Rattle.response_reader.specs.Met.{met}
 use Rattle.response_reader.specs.declared.names.Keys.{Keys}
@@ -29,4 +30,5 @@ handlesFrom s at = map (cut s) (handles (met s at))
 pub record KeysAre (s : List ℕ) (from : ℕ) (r : Keys) : Type 0 where
   pub few : r .len ≤ 8
   pub number : (n : ℕ) → n < 8 → readsAt (nameRows (suc n)) s from ≡ eqb (suc n) (r .len)
-  pub keys : 0 < r .len → handlesFrom s from ≡ rows (r .len) (r .column)
+  pub within : Within 0 (take (r .len) (r .at)) s
+  pub keys : 0 < r .len → handlesFrom s from ≡ rows 0 (take (r .len) (r .at)) s

@@ -6,7 +6,6 @@ use layouts::Group;
 use layouts::after;
 use layouts::after_group;
 use layouts::enter;
-use tlv::writer::put_bytes;
 ghost use mathlib.Core.Path.{_≡_};
 ghost use mathlib.Core.Bool.{_&&_};
 ghost use Rattle.model.specs.Lists.{any, distinct};
@@ -15,9 +14,9 @@ ghost use Rattle.model.specs.Commands.{nameList};
 ghost use Rattle.model.specs.Reader.{listedKeys, listLengths};
 ghost use Rattle.response_reader.specs.Responses.{KeysAre};
 
-// The KeyIDs of a list of names, one after the other, and their number.
+// Where the KeyIDs of a list of names stand, and their number. What stands past it is open.
 struct Keys {
-    column: [u8; 256],
+    at: [usize; 8],
     len: usize,
 }
 
@@ -26,26 +25,25 @@ struct Keys {
 fn keys_from(s: &[u8], from: usize) -> Keys
     ensures { λ r. ⌜ KeysAre (now (s .entry)) from r ⌝ }
 {
-    let mut column = [0u8; 256];
+    let mut at = [0usize; 8];
     let mut len = 0;
-    let mut at = from;
+    let mut place = from;
     while len < 8 {
-        if at == s.len() {
-            return Keys { column, len };
+        if place == s.len() {
+            return Keys { at, len };
         }
-        let end = after_group(s, at, Group::Pair);
+        let end = after_group(s, place, Group::Pair);
         if s.len() < end {
-            return Keys { column, len: 0 };
+            return Keys { at, len: 0 };
         }
-        let start = end - 32;
-        put_bytes(&mut column, 32 * len, &s[start..end]);
+        at[len] = end - 32;
         len += 1;
-        at = end;
+        place = end;
     }
-    if at != s.len() {
-        return Keys { column, len: 0 };
+    if place != s.len() {
+        return Keys { at, len: 0 };
     }
-    Keys { column, len }
+    Keys { at, len }
 }
 
 // Sign's list of names: two to eight, with different KeyIDs.
@@ -59,6 +57,6 @@ pub fn is_name_list(s: &[u8]) -> bool
     if n < 2 {
         return false;
     }
-    let column = keys.column;
-    all_distinct(&column, n)
+    let at = keys.at;
+    all_distinct(s, &at[0..n], 0)
 }

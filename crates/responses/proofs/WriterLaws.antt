@@ -93,7 +93,7 @@ module _ {d d₁ d₂ d₃ d₄ d₅ d₆ d₇ d₈ : List ℕ} {a₁ a₂ a₃ 
       → Wrote d₂ a₂ (bytes (tlv 0x2E0F nonce ∷ [])) (4 + length nonce) d₃ a₃
       → Wrote d₃ a₃ (bytes (tlv 0x2E0A c ∷ [])) (4 + length c) d₄ a₄
       → Wrote d₄ a₄ (bytes (tlv 0x2E10 (cond content hash []) ∷ [])) (cond content 36 4) d₅ a₅
-      → Wrote d₅ a₅ (bytes (tlv 0x2E09 k ∷ [])) 36 d₆ a₆
+      → Wrote d₅ a₅ (bytes (tlv 0x2E09 k ∷ [])) (4 + length k) d₆ a₆
       → Wrote d₆ a₆ (bytes (tlv 0x2E0D (le 4 count) ∷ [])) 8 d₇ a₇
       → Wrote d₇ 0 (header signedTag (a₇ - 4)) 4 d₈ a₈
       → Wrote d 0 (signedDraft content a n nonce c hash k count) a₇ d₈ a₇

@@ -1,6 +1,5 @@
 use crate::lent::Numbers;
 use fields::tags;
-use table_bytes::stored::put_tlv_key;
 use tlv::numbers::put8;
 use tlv::numbers::put16;
 use tlv::writer::put_header;
@@ -88,10 +87,10 @@ pub fn put_signed_data(
     nonce: &[u8],
     challenge: &[u8],
     hash: &[u8],
-    key_id: &[u8; 32],
+    key_id: &[u8],
     count: u32,
 ) -> usize
-    requires { ⌜ (length (now aaid) ≡ 9) × (length (now nonce) ≤ 32) × (length (now challenge) ≤ 32) × (length (now hash) ≡ 32) ⌝ }
+    requires { ⌜ (length (now aaid) ≡ 9) × (length (now nonce) ≤ 32) × (length (now challenge) ≤ 32) × (length (now hash) ≡ 32) × (length (now «key_id») ≡ 32) ⌝ }
     requires { ⌜ leastOutput ≤ length (now out) ⌝ }
     ensures { λ r. ⌜
         Wrote (now (out .entry)) 0
@@ -104,7 +103,7 @@ pub fn put_signed_data(
     let a3 = put_tlv(out, a2, tags::NONCE, nonce);
     let a4 = put_tlv(out, a3, tags::FINAL_CHALLENGE_HASH, challenge);
     let a5 = put_content_hash(out, a4, hash, content);
-    let a6 = put_tlv_key(out, a5, tags::KEYID, key_id);
+    let a6 = put_tlv(out, a5, tags::KEYID, key_id);
     let end = put_tlv32(out, a6, tags::COUNTERS, count as usize);
     put_header(out, 0, tags::SIGNED_DATA, end - 4);
     end

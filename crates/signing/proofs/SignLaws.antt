@@ -27,13 +27,10 @@ use Rattle.tlv.specs.declared.heads.Span.{Span}
 use Rattle.tlv.proofs.HeadLaws.{part-empty}
 use Rattle.command.specs.Parse.{Placed, FieldsPlaced, FieldsRead}
 use Rattle.command.specs.declared.parse.Fields.{Fields}
-use Rattle.key_table.specs.Views.{viewRecord, viewTable, noRow, noRecord}
-use Rattle.key_table.specs.Lookups.{places, isChosen, RowsAre}
-use Rattle.key_table.specs.declared.lookups.Rows.{Rows}
-use Rattle.key_table.specs.declared.records.Record.{Record}
-use Rattle.key_table.specs.declared.records.Table.{Table}
-use Rattle.key_table.proofs.ViewLaws.{length-view, row-at}
-use Rattle.key_table.proofs.LookupLaws.{places-select, places-below, chosen-is}
+use Rattle.key_table.specs.Views.{noRecord}
+use Rattle.stored_table.specs.declared.Rows.{Rows}
+use Rattle.lookups.specs.Chosen.{places, isChosen, RowsAre}
+use Rattle.lookups.proofs.LookupLaws.{places-select, places-below, chosen-is}
 use Rattle.table_bytes.specs.Pairs.{RowsOf, recordsAt}
 use Rattle.responses.specs.Lent.{lentSign}
 use Rattle.responses.specs.Writes.{signedDraft}
@@ -60,46 +57,52 @@ content-is {s} {p} h = ap not (sym (part-empty (h .inside))) ∙ rw (h .value)
 -- ---- one record
 
 -- where they pass, a counter of 32 bits can rise
-pub count-rises : (f : Fields) (n : Numbers) (r : Record) {j : Judged}
-    → j ≡ judge (oneChecks (filled (f .«transaction_content»)) (n .display) (r .count)) Fails Passes → j ≡ Passes
-    → r .count < 4294967296 → r .count + 1 < 4294967296
-count-rises f n r e o h =
-    let p = judge-passed (oneChecks (filled (f .«transaction_content»)) (n .display) (r .count)) (sym e ∙ o) in
-    omega (arith, eqb-false (r .count) maxCount (p .1 .0))
+pub count-rises : (f : Fields) (n : Numbers) (count : ℕ) {j : Judged}
+    → j ≡ judge (oneChecks (filled (f .«transaction_content»)) (n .display) count) Fails Passes → j ≡ Passes
+    → count < 4294967296 → count + 1 < 4294967296
+count-rises f n count e o h =
+    let p = judge-passed (oneChecks (filled (f .«transaction_content»)) (n .display) count) (sym e ∙ o) in
+    omega (arith, eqb-false count maxCount (p .1 .0))
 
 -- the draft of the definition
-sign-draft : (s a : List ℕ) (n : Numbers) (m nonce hash : List ℕ) (r : Record)
-    → signedDraft (hasContent s) a n nonce (fieldIn challengeHash s) hash (r .«key_id») (r .count + 1)
-    ≡ signDraft s (lentSign a n m nonce hash) (viewRecord r)
+sign-draft : (s a : List ℕ) (n : Numbers) (m nonce hash : List ℕ) (r : records.Record)
+    → signedDraft (hasContent s) a n nonce (fieldIn challengeHash s) hash (r .keyId) (r .count + 1)
+    ≡ signDraft s (lentSign a n m nonce hash) r
 unfolding signedDraft signDraft
 sign-draft s a n m nonce hash r = rw add-one
 
--- j is what the code's judgment gave
-module _ {s : List ℕ} {f : Fields} (a : List ℕ) (n : Numbers) (nonce hash : List ℕ) (r : Record) (row : ℕ) (placed : FieldsPlaced s f)
-    {j : Judged} (e : j ≡ judge (oneChecks (filled (f .«transaction_content»)) (n .display) (r .count)) Fails Passes) {out out′ : List ℕ} where
+-- record i is r, of which the code has the count; j is what its judgment gave
+module _ {s : List ℕ} {f : Fields} (a : List ℕ) (n : Numbers) (nonce hash : List ℕ) (r : records.Record) (i : ℕ) (placed : FieldsPlaced s f)
+    {count : ℕ} (c : count ≡ r .count) {j : Judged}
+    (e : j ≡ judge (oneChecks (filled (f .«transaction_content»)) (n .display) count) Fails Passes) where
+  judged-one : judge (oneChecks (hasContent s) (n .display) (r .count)) Fails Passes ≡ j
+  judged-one = rw (← content-is (placed .transaction-content), ← c) (sym e)
+
   -- the status of the first that fails was written
-  pub one-fails : {i : ℕ} {d : Decision} → j ≡ Fails i → StatusAlone sign i Keep out out′ d
-      → DecidedAt s row r (signOne s (lentSign a n [] nonce hash) (viewRecord r)) out out′ d
+  pub one-fails : {out out′ : List ℕ} {q : ℕ} {d : Decision} → j ≡ Fails q → StatusAlone sign q Keep out out′ d
+      → DecidedAt s i r (signOne s (lentSign a n [] nonce hash) r) out out′ d
   unfolding signOne
-  one-fails {i} o p =
-      let q = judge-fails (oneChecks (hasContent s) (n .display) (r .count)) (only sign keep) _ i
-      (rw (content-is (placed .transaction-content)) at (sym e ∙ o)) in
-      record { decided = λ k m t g h. status-decided p tt q }
+  one-fails {q = q} o p =
+      let w = judge-fails (oneChecks (hasContent s) (n .display) (r .count)) (only sign keep) _ q (judged-one ∙ o) in
+      record { decided = λ k m t g h. status-decided p tt w }
 
   -- the draft was written, and the change raises the counter
-  pub one-passes : {c : List ℕ} {i q : ℕ} → j ≡ Passes → c ≡ part s (f .«challenge_hash»)
-      → Wrote out 0 (signedDraft (filled (f .«transaction_content»)) a n nonce c hash (r .«key_id») (r .count + 1)) i out′ q
-      → DecidedAt s row r (signOne s (lentSign a n [] nonce hash) (viewRecord r)) out out′ (record { answer = Draft q; change = SetCount row (r .count + 1) })
+  pub one-passes : {out out′ key v : List ℕ} {x q : ℕ} → j ≡ Passes → v ≡ part s (f .«challenge_hash») → key ≡ r .keyId
+      → Wrote out 0 (signedDraft (filled (f .«transaction_content»)) a n nonce v hash key (count + 1)) x out′ q
+      → DecidedAt s i r (signOne s (lentSign a n [] nonce hash) r) out out′ (record { answer = Draft q; change = SetCount i (count + 1) })
   unfolding signOne
-  one-passes o g w =
-      let v = content-is (placed .transaction-content) in
+  one-passes o g k w =
       let l = oneChecks (hasContent s) (n .display) (r .count) in
       let d = sign-draft s a n [] nonce hash r in
       record {
         decided =
-            λ k m t at can.
-            rw (judge-passes l (only sign keep) _ (rw v at (sym e ∙ o)))
-            (record { answered = wrote-draft (rw (v, g, placed .challenge-hash .value, d) at w); change = rw (at, add-one); can = can });
+            λ x m t at can.
+            rw (judge-passes l (only sign keep) _ (judged-one ∙ o))
+            (record {
+              answered = wrote-draft (rw (content-is (placed .transaction-content), g, placed .challenge-hash .value, k, c, d) at w);
+              change = rw (at, c, add-one);
+              can = can;
+            });
       }
 
 -- ---- the records chosen
@@ -120,20 +123,18 @@ unfolding chosen
 chosen-few hs mine = length-select (λ r. empty hs || among (r .keyId) hs) mine
 
 -- rows are those of the records that a command s of the holder m chooses
-pub record Chose (s m : List ℕ) (t : Table) (rows : Rows) : Type 0 where
-  pub ok : tableOk (viewTable t) ≡ true
-  pub records-are : recordsAt (viewTable t) rows ≡ chosen (fieldsIn keyHandle s) (own m (viewTable t))
-  pub number : length (recordsAt (viewTable t) rows) ≡ rows .len
+pub record Chose (s m : List ℕ) (t : records.Table) (rows : Rows) : Type 0 where
+  pub records-are : recordsAt t rows ≡ chosen (fieldsIn keyHandle s) (own m t)
+  pub number : length (recordsAt t rows) ≡ rows .len
   pub size : rows .len ≤ length (rows .at)
   pub few : rows .len ≤ 8
   pub rows-of : RowsOf t rows
-  pub first-mine : 0 < rows .len → hasMixed m (getD (viewTable t) (getD (rows .at) 0 0) noRecord) ≡ true
+  pub first-mine : 0 < rows .len → hasMixed m (getD t (getD (rows .at) 0 0) noRecord) ≡ true
 
 -- what the rows found tell
-pub chose : {s m : List ℕ} {t : Table} {f : Fields} {rows : Rows} → FieldsPlaced s f → tableOk (viewTable t) ≡ true
-    → length (rows .at) ≡ 32 → RowsAre (places (isChosen m (partsIn s (f .handles))) 0 (viewTable t)) rows → Chose s m t rows
-chose {s} {m} {t} {f} {rows} p ok l is =
-    let v : records.Table = viewTable t in
+pub chose : {s m : List ℕ} {v : records.Table} {f : Fields} {rows : Rows} → FieldsPlaced s f → tableOk v ≡ true
+    → length (rows .at) ≡ 32 → RowsAre (places (isChosen m (partsIn s (f .handles))) 0 v) rows → Chose s m v rows
+chose {s} {m} {v} {f} {rows} p ok l is =
     let hs : List (List ℕ) = partsIn s (f .handles) in
     let g : ℕ → records.Record = λ i. getD v i noRecord in
     let fits : rows .len ≤ length (rows .at) = omega (arith, is .few) in
@@ -146,12 +147,11 @@ chose {s} {m} {t} {f} {rows} p ok l is =
     λ i h. rw (← getD-take (rows .len) (rows .at) i 0 h, is .rows-are)
     (places-below (isChosen m hs) v i (omega (arith, n, ap length (is .rows-are)))) in
     record {
-      ok = ok;
       records-are = c;
       number = k;
       size = fits;
       few = omega (arith, k, ap length c, chosen-few (fieldsIn keyHandle s) (own m v), obeys-rules v ok .own-few m);
-      rows-of = record { few = is .few; each = λ i h. omega (arith, below i h, length-view t) };
+      rows-of = record { few = is .few; each = below };
       first-mine =
           λ h. and-left (hasMixed m (g (getD (rows .at) 0 0))) _
           (first-passes (isChosen m hs) v (g (getD (rows .at) 0 0)) (ap first (sym a) ∙ first-at g (rows .len) (rows .at) h fits));
@@ -191,33 +191,29 @@ module _ {s : List ℕ} {f : Fields} (n : Numbers) (q : FieldsRead sign s f) {j 
     sign-passes a m nonce hash mine = judge-passes (userChecks (broken sign s) (n .verdict)) (only sign keep) _ (judged-so ∙ o)
 
     -- by how many are chosen
-    module _ (a nonce hash : List ℕ) {m : List ℕ} {t : Table} {rows : Rows} (w : Chose s m t rows) where
+    module _ (a nonce hash : List ℕ) {m : List ℕ} {t : records.Table} {rows : Rows} (w : Chose s m t rows) where
       abbrev l : Lent
       l = lentSign a n m nonce hash
 
-      sign-at : decideSign s l (own m (viewTable t)) ≡ signChosen s l (recordsAt (viewTable t) rows)
-      sign-at = sign-passes a m nonce hash (own m (viewTable t)) ∙ ap (signChosen s l) (sym (w .records-are))
+      sign-at : decideSign s l (own m t) ≡ signChosen s l (recordsAt t rows)
+      sign-at = sign-passes a m nonce hash (own m t) ∙ ap (signChosen s l) (sym (w .records-are))
 
-      pub none-chosen : rows .len ≡ 0 → decideSign s l (own m (viewTable t)) ≡ only sign keep 0x02
-      none-chosen h = sign-at ∙ chosen-none s l (recordsAt (viewTable t) rows) (w .number ∙ h)
+      pub none-chosen : rows .len ≡ 0 → decideSign s l (own m t) ≡ only sign keep 0x02
+      none-chosen h = sign-at ∙ chosen-none s l (recordsAt t rows) (w .number ∙ h)
 
-      pub one-chosen : t .len ≤ length (t .rows) → rows .len ≡ 1 → (k : List ℕ) {out out′ : List ℕ} {d : Decision}
-          → let row = getD (rows .at) 0 0 in let r = getD (t .rows) row noRow in
-          DecidedAt s row r (signOne s (lentSign a n [] nonce hash) (viewRecord r)) out out′ d
-          → Decided s k m t (decideSign s l (own m (viewTable t))) out out′ d
-      one-chosen fits h k p =
-          let row : ℕ = getD (rows .at) 0 0 in
-          let r : Record = getD (t .rows) row noRow in
-          let inside : row < t .len = w .rows-of .each 0 (omega arith) in
-          let at : getD (viewTable t) row noRecord ≡ viewRecord r = row-at t fits row inside in
-          let one : recordsAt (viewTable t) rows ≡ viewRecord r ∷ [] =
-          one-at (λ i. getD (viewTable t) i noRecord) (rows .len) (rows .at) h (w .size) ∙ rw at in
-          rw (sign-at ∙ ap (signChosen s l) one ∙ chosen-one s a n m nonce hash (viewRecord r))
-          (p .decided k m t at (record { row = inside; mine = w .first-mine (omega arith) }))
+      pub one-chosen : rows .len ≡ 1 → (k : List ℕ) {r : records.Record} {out out′ : List ℕ} {d : Decision}
+          → getD t (getD (rows .at) 0 0) noRecord ≡ r
+          → DecidedAt s (getD (rows .at) 0 0) r (signOne s (lentSign a n [] nonce hash) r) out out′ d
+          → Decided s k m t (decideSign s l (own m t)) out out′ d
+      one-chosen h k {r} at p =
+          let i : ℕ = getD (rows .at) 0 0 in
+          let one : recordsAt t rows ≡ r ∷ [] = one-at (λ i. getD t i noRecord) (rows .len) (rows .at) h (w .size) ∙ rw at in
+          rw (sign-at ∙ ap (signChosen s l) one ∙ chosen-one s a n m nonce hash r)
+          (p .decided k m t at (record { row = w .rows-of .each 0 (omega arith); mine = w .first-mine (omega arith) }))
 
       pub several-chosen : (rows .len ≡ 0 → ⊥) → (rows .len ≡ 1 → ⊥) → (k : List ℕ) {out out′ : List ℕ} {i r : ℕ}
-          → Wrote out 0 (nameResponse (recordsAt (viewTable t) rows)) i out′ r
-          → Decided s k m t (decideSign s l (own m (viewTable t))) out out′ (record { answer = Response r; change = Keep })
+          → Wrote out 0 (nameResponse (recordsAt t rows)) i out′ r
+          → Decided s k m t (decideSign s l (own m t)) out out′ (record { answer = Response r; change = Keep })
       several-chosen g h k p =
-          rw (sign-at ∙ several-listed s l (recordsAt (viewTable t) rows) (omega (arith, w .number, pos-of-ne-zero g)))
+          rw (sign-at ∙ several-listed s l (recordsAt t rows) (omega (arith, w .number, pos-of-ne-zero g)))
           (record { answered = wrote-response p; change = refl; can = tt })

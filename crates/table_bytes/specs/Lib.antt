@@ -1,3 +1,3 @@
 -- A table's records as bytes, in the words of `model`.
-pub mod Stored
 pub mod Pairs
+pub mod Left

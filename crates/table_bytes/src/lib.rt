@@ -1,3 +1,4 @@
-// A table's records as bytes: the stored form, both ways, and the names for the user's choice.
+// A table's records written: the stored form, of a table by value and of the table that a change leaves, and the names for the user's choice.
+pub mod left;
 pub mod pairs;
 pub mod stored;

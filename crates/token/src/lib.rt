@@ -4,12 +4,12 @@ pub mod assertions;
 use authenticator::answers::Outcome;
 use authenticator::answers::Refusal;
 use authenticator::answers::number_of;
-use authenticator::run::serve;
+use authenticator::left::write_left;
+use authenticator::serve::serve;
 use decisions::answers::Answer;
 use fields::LEAST_OUTPUT;
 use responses::lent::Numbers;
-use table_bytes::stored::read_table;
-use table_bytes::stored::write_table;
+use table_index::read_places;
 ghost use mathlib.Core.Path.{_≡_};
 ghost use mathlib.Core.Option.{some};
 ghost use lib.ListN.{length};
@@ -77,11 +77,12 @@ pub extern "C" fn uaf_command(
     if table_out.len() < MAX_STORED {
         return number_of(Refusal::ShortOutput);
     }
-    let read = read_table(table);
+    let read = read_places(table);
     if !read.ok {
         return number_of(Refusal::BrokenTable);
     }
-    let t = read.table;
+    let at = read.at;
+    let n = read.len;
     let numbers = Numbers {
         version,
         signature_algorithm,
@@ -89,7 +90,7 @@ pub extern "C" fn uaf_command(
         verdict,
         display,
     };
-    let ran = serve(
+    let served = serve(
         command,
         aaid,
         numbers,
@@ -99,14 +100,16 @@ pub extern "C" fn uaf_command(
         public_key,
         nonce,
         hash,
-        t,
+        table,
+        &at[0..n],
         response,
     );
-    let outcome = ran.outcome;
+    let outcome = served.outcome;
     match outcome {
         Outcome::Refused(r) => number_of(r),
         Outcome::Gave(a) => {
-            *table_len = write_table(table_out, ran.table);
+            let change = served.change;
+            *table_len = write_left(table_out, table, &at[0..n], change, command, mixed, key_id);
             tell(a, answer, response_len);
             0
         }

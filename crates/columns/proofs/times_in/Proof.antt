@@ -4,23 +4,43 @@ use mathlib.Core.Logic.{⊎-elim}
 use Prim.Native.Nat.{_+_, _-_, _≤_}
 use native.Mathlib.Omega.{arith}
 use denote.Ref.{now}
-use lib.ListN.{drop}
+use lib.ListN.{length, drop, getD}
 use Rattle.columns.specs.Columns.{rows, times}
-use Rattle.columns.proofs.ColumnLaws.{rows-end, times-at}
+use Rattle.columns.proofs.ColumnLaws.{first-differs, rows-end, times-at}
 use Rattle.columns.proofs.times_in.Statement.{statement}
 use Rattle.columns.proofs.times_in.Tie as tie
 
 abbrev Inv-loop : tie.InvT-loop
-Inv-loop c from n v k₀ i₀ k i = (k ≤ i) × (times v (drop from (rows n c)) ≡ k + times v (drop i (rows n c)))
+Inv-loop s at off from v first k₀ i₀ k i =
+    (first ≡ getD v 0 0) × (k ≤ i) × (times v (drop from (rows off at s)) ≡ k + times v (drop i (rows off at s)))
 
 abbrev μ-loop : tie.MeasureT-loop
-μ-loop c from n v k₀ i₀ k i = n - i
+μ-loop s at off from v first k₀ i₀ k i = length at - i
+
+first-of-requires : tie.Need-first-of-requires Inv-loop μ-loop
+first-of-requires c κs = search needs
 
 loop-holds : tie.Need-loop-holds Inv-loop μ-loop
-loop-holds c = (search needs, search needs)
+loop-holds c = (c .first-of .ensures, search needs, search needs)
+
+mul-p : tie.Need-mul-p Inv-loop μ-loop
+mul-p c = search needs
+
+shared-slice-read-p : tie.Need-shared-slice-read-p Inv-loop μ-loop
+shared-slice-read-p c = search needs
+
+add-p : tie.Need-add-p Inv-loop μ-loop
+add-p c = omega (arith, c .before .before .before .before .before .before .before .pre .each (c .before .before .loop .i) (c .before .loop-test .taken))
+
+shared-slice-read-if1 : tie.Need-shared-slice-read-if1 Inv-loop μ-loop
+shared-slice-read-if1 c =
+    let t = c .before .before in
+    omega (arith, t .before .before .before .before .before .before .pre .each (t .before .loop .i) (t .loop-test .taken))
 
 row-is-requires : tie.Need-row-is-requires Inv-loop μ-loop
-row-is-requires c κs = search needs
+row-is-requires c κs =
+    let t = c .before .before .before in
+    t .before .before .before .before .before .before .pre .each _ (t .loop-test .taken)
 
 add-k : tie.Need-add-k Inv-loop μ-loop
 add-k c = search needs
@@ -33,25 +53,44 @@ loop-less c = search needs
 
 loop-again : tie.Need-loop-again Inv-loop μ-loop
 loop-again c =
-    let l = c .before .before .before in
-    let a = l .before .before .before .args in
-    let test = c .before .before .loop-test .taken in
-    let row = c .before .row-is .ensures in
+    let t = c .before .before .before in
+    let l = t .before in
+    let a = l .before .before .before .before .before .args in
+    let v = now (a .v) in
+    let inv = l .loop .inv in
     ⊎-elim
-    (λ w. let e = times-at _ _ (now (a .c)) test (now (a .v)) (sym (w .0 .taken) ∙ row) in
-    (omega (arith, w .1), omega (arith, e, w .1, l .loop .inv)))
-    (λ w. let e = times-at _ _ (now (a .c)) test (now (a .v)) (sym (w .0 .left) ∙ row) in
-    (omega (arith, w .1), omega (arith, e, w .1, l .loop .inv)))
+    (λ w. let e = times-at (a .off) (now (a .at)) (now (a .s)) _ (t .loop-test .taken) v (sym (w .2 .taken) ∙ w .1 .ensures) in
+    (inv .0, omega (arith, inv, w .3), omega (arith, e, inv, w .3)))
+    (⊎-elim
+    (λ w. let e = times-at (a .off) (now (a .at)) (now (a .s)) _ (t .loop-test .taken) v (sym (w .2 .left) ∙ w .1 .ensures) in
+    (inv .0, omega (arith, inv, w .3), omega (arith, e, inv, w .3)))
+    (λ w. let other = first-differs (now (a .s)) v _ (l .before .before .before .before .before .pre .each _ (t .loop-test .taken)) (rw (inv .0) at (w .0 .left)) in
+    let e = times-at (a .off) (now (a .at)) (now (a .s)) _ (t .loop-test .taken) v (sym other) in
+    (inv .0, omega (arith, inv, w .1), omega (arith, e, inv, w .1))))
     (c .if1 .came)
 
 returns : tie.Need-returns Inv-loop μ-loop
 unfolding times
 returns c =
     let l = c .before in
-    let a = l .before .before .before .args in
-    omega (arith, l .loop .inv, ap (times (now (a .v))) (rows-end _ _ (now (a .c)) (c .loop-test .left)))
+    let a = l .before .before .before .before .before .args in
+    omega (arith, l .loop .inv, ap (times (now (a .v))) (rows-end (a .off) (now (a .at)) (now (a .s)) _ (c .loop-test .left)))
 
 pub times-in-spec : {M : Type 1} → statement M
 times-in-spec =
     tie.close
-    (tie.spec Inv-loop μ-loop loop-holds row-is-requires add-k add-i loop-less loop-again returns)
+    (tie.spec
+    Inv-loop
+    μ-loop
+    first-of-requires
+    loop-holds
+    mul-p
+    shared-slice-read-p
+    add-p
+    shared-slice-read-if1
+    row-is-requires
+    add-k
+    add-i
+    loop-less
+    loop-again
+    returns)

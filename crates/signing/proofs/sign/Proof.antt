@@ -1,12 +1,13 @@
 use denote.Ref.{now}
-use mathlib.Core.Path.{_≡_}
+use mathlib.Core.Path.{_≡_, sym}
 use mathlib.Core.Bool.{false}
-use Prim.Native.Nat.{_≤_, _<_}
+use Prim.Native.Nat.{_<_}
 use lib.ListN.{length, getD, length-map}
 use native.Mathlib.Omega.{arith}
 use Rattle.model.specs.Tlv.{sign, broken}
 use Rattle.command.specs.Parse.{FieldsPlaced}
-use Rattle.key_table.proofs.RuleLaws.{few-rows}
+use Rattle.stored_table.specs.Stored.{tableIn}
+use Rattle.stored_table.proofs.IndexLaws.{record-at, length-places, few-places}
 use borrow.Author.Needs.{needs}
 use Rattle.decisions.proofs.AnswerLaws.{status-decided}
 use Rattle.signing.proofs.SignLaws.{Chose, chose, sign-fails, sign-unbroken, none-chosen, one-chosen, several-chosen}
@@ -15,7 +16,7 @@ use Rattle.signing.proofs.sign.Tie as tie
 
 -- where the checks have passed
 abbrev start : tie.After-enum-told → tie.Start
-start c = c .before .before .before .before .before .before .before .before .before .before
+start c = c .before .before .before .before .before .before .before .before .before .before .before .before
 
 -- so no rule is broken
 sound : (c : tie.After-enum-told) → broken sign (now (start c .args .s)) ≡ false
@@ -26,25 +27,17 @@ sound c =
 placed : (c : tie.After-enum-told) → FieldsPlaced (now (start c .args .s)) (c .before .before .before .fields-of .result)
 placed c = c .before .before .before .fields-of .ensures .unless-broken (sound c)
 
-few : (s : tie.Start) → s .args .t7 .len ≤ 32
-few s = few-rows (s .args .t7) (s .pre .1 .0)
-
--- the rows found are those of the records chosen
+-- the records found are those chosen
 found : (c : tie.After-chosen) → let a = start (c .before .before) .args in
-    Chose (now (a .s)) (now (a .mixed)) (a .t7) (c .chosen .result)
+    Chose (now (a .s)) (now (a .mixed)) (tableIn (now (a .b))) (c .chosen .result)
 found c =
     let p = c .before .before in
-    chose (placed p) (start p .pre .1 .0) (simp length-map at (c .chosen .ok .1 .1 .0 .1 .0 .1)) (c .chosen .ensures)
+    chose (placed p) (start p .pre .1 .0 .ok) (simp length-map at (c .chosen .ok .1 .1 .0 .1 .0 .1)) (c .chosen .ensures)
 
-in-table : (c : tie.After-row) → getD (c .before .before .before .chosen .result .at) 0 0 < 32
-in-table c =
-    let w = c .before .before .before in
-    omega (arith, found w .rows-of .each 0 (search needs), few (start (w .before .before)))
-
-rows-fit : (s : tie.Start) → s .args .t7 .len ≤ length (s .args .t7 .rows)
-rows-fit s =
-    let size : length (s .args .t7 .rows) ≡ 32 = simp length-map at (s .good .1 .1 .1 .1 .1 .1 .0 .1 .1 .0 .1 .0 .1) in
-    omega (arith, few s)
+-- the first of them has a place
+first : (c : tie.After-chosen) → 0 < c .chosen .result .len → let a = start (c .before .before) .args in
+    getD (c .chosen .result .at) 0 0 < length (now (a .at))
+first c h = omega (arith, found c .rows-of .each 0 h, length-places (start (c .before .before) .pre .1 .0))
 
 fields-of-requires : tie.Need-fields-of-requires
 fields-of-requires c κs = search needs
@@ -62,10 +55,10 @@ enum-told : tie.Need-enum-told
 enum-told c = search needs
 
 chosen-requires : tie.Need-chosen-requires
-chosen-requires c κs = (few (start (c .before)), placed (c .before) .handles .inside)
+chosen-requires c κs = (start (c .before) .pre .1 .0, placed (c .before) .handles .inside)
 
 only-requires-2 : tie.Need-only-requires-2
-only-requires-2 c κs = search needs
+only-requires-2 c κs = start (c .before .before .before .before) .pre .1 .1
 
 same-length : tie.Need-same-length
 same-length c = search needs
@@ -78,19 +71,23 @@ returns c =
     λ k. status-decided (c .before .before .only2 .ensures) tt
     (none-chosen _ (u .before .fields-of .ensures) (u .judge-sign .ensures) (p .enum-told .given .1) _ _ _ (found w) (c .before .before .before .before .if1 .taken))
 
-element-copy-out-row : tie.Need-element-copy-out-row
-element-copy-out-row c = search needs
+element-copy-out-i : tie.Need-element-copy-out-i
+element-copy-out-i c = search needs
 
-mul-r : tie.Need-mul-r
-mul-r c = omega (arith, in-table c)
+mul-sign-one : tie.Need-mul-sign-one
+mul-sign-one c =
+    let w = c .before .before .before in
+    omega (arith, first w (omega (arith, c .before .if2 .taken)), few-places (start (w .before .before) .pre .1 .0))
 
-element-copy-out-r : tie.Need-element-copy-out-r
-element-copy-out-r c = in-table c
+shared-slice-read-sign-one : tie.Need-shared-slice-read-sign-one
+shared-slice-read-sign-one c = first (c .before .before .before .before) (omega (arith, c .before .before .if2 .taken))
 
 sign-one-requires : tie.Need-sign-one-requires
 sign-one-requires c κs =
-    let p = c .before .before .before .before .before .before .before in
-    ((placed p, sound p), (start p .pre .0, start p .pre .1 .1))
+    let w = c .before .before .before .before .before in
+    let p = w .before .before in
+    let i = first w (omega (arith, c .before .before .before .if2 .taken)) in
+    ((placed p, sound p), (start p .pre .0, (record-at (start p .pre .1 .0) _ i .stands, start p .pre .1 .1)))
 
 same-length-2 : tie.Need-same-length-2
 same-length-2 c = search needs
@@ -100,13 +97,16 @@ returns-2 c =
     let w = c .before .before .before .before .before .before .before .before in
     let p = w .before .before in
     let u = p .before .before in
-    λ k. one-chosen _ (u .before .fields-of .ensures) (u .judge-sign .ensures) (p .enum-told .given .1) _ _ _ (found w)
-    (rows-fit (start p)) (c .before .before .before .before .before .before .if2 .taken) k (c .before .before .sign-one .ensures)
+    let one = c .before .before .before .before .before .before .if2 .taken in
+    λ k. one-chosen _ (u .before .fields-of .ensures) (u .judge-sign .ensures) (p .enum-told .given .1) _ _ _ (found w) one k
+    (sym (record-at (start p .pre .1 .0) _ (first w (omega (arith, one))) .is)) (c .before .before .sign-one .ensures)
 
 put-names-requires : tie.Need-put-names-requires
 put-names-requires c κs =
-    let w = found (c .before .before .before) in
-    (w .ok, (w .rows-of, (w .few, search needs)))
+    let f = c .before .before .before in
+    let w = found f in
+    let p = start (f .before .before) .pre in
+    (p .1 .0, (w .rows-of, (w .few, p .1 .1)))
 
 same-length-3 : tie.Need-same-length-3
 same-length-3 c = search needs
@@ -142,9 +142,9 @@ sign-spec =
     only-requires-2
     same-length
     returns
-    element-copy-out-row
-    mul-r
-    element-copy-out-r
+    element-copy-out-i
+    mul-sign-one
+    shared-slice-read-sign-one
     sign-one-requires
     same-length-2
     returns-2

@@ -8,7 +8,7 @@ use Rattle.model.specs.Lists.{all}
 use Rattle.model.specs.Tlv.{tlvs, isRun, broken, fills}
 use Rattle.command.specs.Kinds.{kindIs}
 use Rattle.command.specs.Children.{childPasses}
-use Rattle.command.proofs.ParseLaws.{rest-part, broken-long, broken-cut, broken-child, broken-times, whole-place, passed-run, read-broken, read-picked, unbroken-given, few-handles}
+use Rattle.command.proofs.ParseLaws.{rest-part, broken-long, broken-cut, broken-child, broken-times, whole-place, passed-run, read-broken, read-picked, unbroken-given, count-handles, few-handles}
 use borrow.Author.Needs.{needs}
 use Rattle.command.proofs.parse.fields_of.Statement.{statement}
 use Rattle.command.proofs.parse.fields_of.Tie as tie
@@ -94,34 +94,42 @@ no-fields-requires-4 c κs = search needs
 returns-4 : tie.Need-returns-4
 returns-4 c = read-broken (told (c .before .before) ∙ c .before .if4 .taken) (c .no-fields4 .ensures)
 
+element-copy-out-handles-in : tie.Need-element-copy-out-handles-in
+element-copy-out-handles-in c = search needs
+
 handles-in-requires : tie.Need-handles-in-requires
-handles-in-requires c κs = let b = sound c in (unbroken-given _ _ b, few-handles _ _ b)
+handles-in-requires c κs =
+    let e = c .before in
+    let b = sound e in
+    let g = unbroken-given _ _ b in
+    let n = count-handles _ _ g (e .before .before .gather .ensures) in
+    (g, n, rw n (few-handles _ _ b))
 
-element-copy-out-t14 : tie.Need-element-copy-out-t14
-element-copy-out-t14 c = search needs
+element-copy-out-t16 : tie.Need-element-copy-out-t16
+element-copy-out-t16 c = search needs
 
-element-copy-out-t17 : tie.Need-element-copy-out-t17
-element-copy-out-t17 c = search needs
+element-copy-out-t19 : tie.Need-element-copy-out-t19
+element-copy-out-t19 c = search needs
 
-element-copy-out-t20 : tie.Need-element-copy-out-t20
-element-copy-out-t20 c = search needs
+element-copy-out-t22 : tie.Need-element-copy-out-t22
+element-copy-out-t22 c = search needs
 
-element-copy-out-t23 : tie.Need-element-copy-out-t23
-element-copy-out-t23 c = search needs
+element-copy-out-t25 : tie.Need-element-copy-out-t25
+element-copy-out-t25 c = search needs
 
-element-copy-out-t26 : tie.Need-element-copy-out-t26
-element-copy-out-t26 c = search needs
+element-copy-out-t28 : tie.Need-element-copy-out-t28
+element-copy-out-t28 c = search needs
 
-element-copy-out-t29 : tie.Need-element-copy-out-t29
-element-copy-out-t29 c = search needs
+element-copy-out-t31 : tie.Need-element-copy-out-t31
+element-copy-out-t31 c = search needs
 
-element-copy-out-t32 : tie.Need-element-copy-out-t32
-element-copy-out-t32 c = search needs
+element-copy-out-t34 : tie.Need-element-copy-out-t34
+element-copy-out-t34 c = search needs
 
 returns-5 : tie.Need-returns-5
 returns-5 c =
     let h = c .before .before .before .before .before .before .before in
-    let s = h .before in
+    let s = h .before .before in
     read-picked (sound s) (s .before .before .gather .ensures) (h .handles-in .ensures)
 
 pub fields-of-spec : {M : Type 1} → statement M
@@ -143,12 +151,13 @@ fields-of-spec =
     times-ok-requires
     no-fields-requires-4
     returns-4
+    element-copy-out-handles-in
     handles-in-requires
-    element-copy-out-t14
-    element-copy-out-t17
-    element-copy-out-t20
-    element-copy-out-t23
-    element-copy-out-t26
-    element-copy-out-t29
-    element-copy-out-t32
+    element-copy-out-t16
+    element-copy-out-t19
+    element-copy-out-t22
+    element-copy-out-t25
+    element-copy-out-t28
+    element-copy-out-t31
+    element-copy-out-t34
     returns-5)

@@ -8,23 +8,23 @@ use Rattle.model.specs.Tlv.{keyIdOrNone, deregister, broken, fieldIn}
 use Rattle.model.specs.Records.{own, keyIds}
 use Rattle.model.specs.Commands.{judge}
 use Rattle.command.specs.Parse.{Placed}
-use Rattle.key_table.specs.Views.{viewTable}
+use Rattle.stored_table.specs.Stored.{tableIn}
 use Rattle.decisions.proofs.JudgeLaws.{placed-empty}
 use Rattle.decisions.proofs.deregister.judge_deregister.Statement.{statement}
 use Rattle.decisions.proofs.deregister.judge_deregister.Tie as tie
 
-unbroken : (c : tie.Else1) → broken deregister (now (c .before .before .before .args .s)) ≡ false
-unbroken c = sym (c .before .before .before .pre .0 .broken-is) ∙ c .if1 .left
+unbroken : (c : tie.Else1) → broken deregister (now (c .before .before .before .before .before .args .s)) ≡ false
+unbroken c = sym (c .before .before .before .before .before .pre .0 .broken-is) ∙ c .if1 .left
 
-key-placed : (c : tie.Else1) → let a = c .before .before .before .args in Placed (now (a .s)) keyIdOrNone (a .f .«key_id»)
-key-placed c = c .before .before .before .pre .0 .unless-broken (unbroken c) .key-id
+key-placed : (c : tie.Else1) → let a = c .before .before .before .before .before .args in Placed (now (a .s)) keyIdOrNone (a .f .«key_id»)
+key-placed c = c .before .before .before .before .before .pre .0 .unless-broken (unbroken c) .key-id
 
-not-empty : (c : tie.Else2) → empty (fieldIn keyIdOrNone (now (c .before .before .before .before .before .before .args .s))) ≡ false
+not-empty : (c : tie.Else2) → empty (fieldIn keyIdOrNone (now (c .before .before .before .before .before .before .before .before .args .s))) ≡ false
 not-empty c = placed-empty _ _ _ (key-placed (c .before .before .before)) ∙ ne-eqb _ _ (c .if2 .left)
 
 -- what the lookup gave
-found : (c : tie.After-is-own) → let a = c .before .before .before .before .before .before .before .before .args in
-    among (fieldIn keyIdOrNone (now (a .s))) (keyIds (own (now (a .mixed)) (viewTable (a .t)))) ≡ c .is-own .result
+found : (c : tie.After-is-own) → let a = c .before .before .before .before .before .before .before .before .before .before .args in
+    among (fieldIn keyIdOrNone (now (a .s))) (keyIds (own (now (a .mixed)) (tableIn (now (a .b))))) ≡ c .is-own .result
 found c =
     let p = c .before in
     let k = p .part-of .ensures ∙ key-placed (p .before .before .before .before) .value in
@@ -32,7 +32,7 @@ found c =
 
 returns : tie.Need-returns
 unfolding judge
-returns c = rw (sym (c .before .before .before .pre .0 .broken-is) ∙ c .if1 .taken)
+returns c = rw (sym (c .before .before .before .before .before .pre .0 .broken-is) ∙ c .if1 .taken)
 
 returns-2 : tie.Need-returns-2
 unfolding judge

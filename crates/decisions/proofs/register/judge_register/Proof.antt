@@ -10,22 +10,22 @@ use Rattle.model.specs.Tlv.{num, attestationType, full, surrogate, register, br
 use Rattle.model.specs.Records.{own, keyIds}
 use Rattle.model.specs.Commands.{judge, registerChecks}
 use Rattle.command.specs.Parse.{Placed}
-use Rattle.key_table.specs.Views.{viewTable}
-use Rattle.key_table.proofs.ViewLaws.{length-view}
+use Rattle.stored_table.specs.Stored.{tableIn}
+use Rattle.stored_table.proofs.IndexLaws.{length-places}
 use Rattle.decisions.proofs.JudgeLaws.{type-inside, type-is, Admitted, admitted}
 use Rattle.decisions.proofs.register.judge_register.Statement.{statement}
 use Rattle.decisions.proofs.register.judge_register.Tie as tie
 
-unbroken : (c : tie.Else1) → broken register (now (c .before .before .before .before .args .s)) ≡ false
-unbroken c = sym (c .before .before .before .before .pre .0 .broken-is) ∙ c .if1 .left
+unbroken : (c : tie.Else1) → broken register (now (c .before .before .before .before .before .before .args .s)) ≡ false
+unbroken c = sym (c .before .before .before .before .before .before .pre .0 .broken-is) ∙ c .if1 .left
 
 -- where the attestation type stands
-type-placed : (c : tie.Else1) → let a = c .before .before .before .before .args in Placed (now (a .s)) attestationType (a .f .«attestation_type»)
-type-placed c = c .before .before .before .before .pre .0 .unless-broken (unbroken c) .attestation-type
+type-placed : (c : tie.Else1) → let a = c .before .before .before .before .before .before .args in Placed (now (a .s)) attestationType (a .f .«attestation_type»)
+type-placed c = c .before .before .before .before .before .before .pre .0 .unless-broken (unbroken c) .attestation-type
 
 -- what the test of it gave
 supported : (c : tie.After-is-supported)
-    → let type = num (fieldIn attestationType (now (c .before .before .before .before .before .before .before .before .args .s))) in
+    → let type = num (fieldIn attestationType (now (c .before .before .before .before .before .before .before .before .before .before .args .s))) in
     c .is-supported .result ≡ (eqb type full || eqb type surrogate)
 supported c =
     let n = c .before .get16 in
@@ -33,24 +33,30 @@ supported c =
     rw (type-is _ _ (unbroken u) (type-placed u) (n .result) (n .ensures)) at (c .is-supported .ensures)
 
 -- the first three checks pass
-passed : (c : tie.Else3) → let a = c .before .before .before .before .before .before .before .before .before .args in Admitted (now (a .s)) (a .numbers .verdict)
+passed : (c : tie.Else3) → let a = c .before .before .before .before .before .before .before .before .before .before .before .args in Admitted (now (a .s)) (a .numbers .verdict)
 passed c =
     let v = c .before .before .before in
     record { unbroken = unbroken (v .before .before); user = v .if2 .left; supported = sym (supported (c .before)) ∙ not-false _ (c .if3 .left) }
 
 fresh : (c : tie.Else4)
-    → let a = c .before .before .before .before .before .before .before .before .before .before .before .args in
-    among (now (a .key-id)) (keyIds (viewTable (a .t))) ≡ false
+    → let a = c .before .before .before .before .before .before .before .before .before .before .before .before .before .args in
+    among (now (a .key-id)) (keyIds (tableIn (now (a .b)))) ≡ false
 fresh c = sym (c .before .is-stored .ensures) ∙ c .if4 .left
 
-few : (c : tie.Else5)
+-- as many as records
+places : (c : tie.Else4)
     → let a = c .before .before .before .before .before .before .before .before .before .before .before .before .before .args in
-    leb 8 (length (own (now (a .mixed)) (viewTable (a .t)))) ≡ false
+    length (now (a .at)) ≡ length (tableIn (now (a .b)))
+places c = length-places (c .before .before .before .before .before .before .before .before .before .before .before .before .before .pre .1)
+
+few : (c : tie.Else5)
+    → let a = c .before .before .before .before .before .before .before .before .before .before .before .before .before .before .before .args in
+    leb 8 (length (own (now (a .mixed)) (tableIn (now (a .b))))) ≡ false
 few c = lt-leb _ _ (rw (c .before .own-count .ensures) at (c .if5 .left))
 
 returns : tie.Need-returns
 unfolding judge registerChecks
-returns c = rw (sym (c .before .before .before .before .pre .0 .broken-is) ∙ c .if1 .taken)
+returns c = rw (sym (c .before .before .before .before .before .before .pre .0 .broken-is) ∙ c .if1 .taken)
 
 verdict-status-requires : tie.Need-verdict-status-requires
 verdict-status-requires c κs = search needs
@@ -90,15 +96,15 @@ returns-5 c =
 
 returns-6 : tie.Need-returns-6
 returns-6 c =
-    let d = c .before .before .before .before in
+    let d = c .before .before .before in
     sym (admitted _ _ _ _ _ _ _ (passed (d .before .before))
-    ∙ rw (fresh d, few (c .before .before), length-view, le-leb _ _ (c .if6 .taken)))
+    ∙ rw (fresh d, few (c .before), ← places d, le-leb _ _ (c .if6 .taken)))
 
 returns-7 : tie.Need-returns-7
 returns-7 c =
-    let d = c .before .before .before .before in
+    let d = c .before .before .before in
     sym (admitted _ _ _ _ _ _ _ (passed (d .before .before))
-    ∙ rw (fresh d, few (c .before .before), length-view, lt-leb _ _ (c .if6 .left)))
+    ∙ rw (fresh d, few (c .before), ← places d, lt-leb _ _ (c .if6 .left)))
 
 pub judge-register-spec : {M : Type 1} → statement M
 judge-register-spec =

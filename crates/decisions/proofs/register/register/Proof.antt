@@ -10,7 +10,7 @@ use Rattle.decisions.proofs.register.register.Statement.{statement}
 use Rattle.decisions.proofs.register.register.Tie as tie
 
 -- no check fails, so no rule is broken
-passed : (c : tie.After-enum-told) → let a = c .before .before .before .before .before .before .before .before .before .before .args in
+passed : (c : tie.After-enum-told) → let a = c .before .before .before .before .before .before .before .before .before .before .before .before .args in
     broken register (now (a .s)) ≡ false
 passed c = register-unbroken _ _ _ _ _ _ _ (c .before .before .judge-register .ensures) (c .enum-told .given .1)
 
@@ -24,7 +24,7 @@ enum-known-judged : tie.Need-enum-known-judged
 enum-known-judged c = search needs
 
 only-requires : tie.Need-only-requires
-only-requires c κs = search needs
+only-requires c κs = c .before .before .before .before .before .before .before .before .before .before .before .before .before .before .pre .1 .1
 
 enum-told : tie.Need-enum-told
 enum-told c = search needs
@@ -34,11 +34,13 @@ part-of-requires c κs = c .before .before .before .before .fields-of .ensures .
 
 put-krd-requires : tie.Need-put-krd-requires
 put-krd-requires c κs =
-    let f = c .before .before .before .before .before .fields-of .ensures in
+    let f = c .before .before .before .before .before in
+    let p = f .before .before .before .before .before .before .before .before .before .pre in
     let short : length (now (c .part-of .result)) ≤ 32 =
     rw (c .part-of .ensures)
-    (placed-short register challengeHash (passed (c .before .before)) refl (f .unless-broken (passed (c .before .before)) .challenge-hash)) in
-    search needs
+    (placed-short register challengeHash (passed (c .before .before)) refl
+    (f .fields-of .ensures .unless-broken (passed (c .before .before)) .challenge-hash)) in
+    ((p .0 .0, short, p .0 .2, p .0 .3), p .1 .1)
 
 same-length : tie.Need-same-length
 same-length c = search needs
@@ -56,10 +58,10 @@ returns-2 : tie.Need-returns-2
 returns-2 c =
     let p = c .before .before .before .before in
     let j = p .before .before in
-    let a = j .before .before .before .before .before .before .before .before .before .before in
+    let s = j .before .before .before .before .before .before .before .before .before .before .before .before in
     registered _ _ _ _ _ _ _ _ _ (j .before .before .before .fields-of .ensures)
     (j .before .before .judge-register .ensures) (j .enum-told .given .1)
-    (a .pre .0 .1) (a .pre .0 .2) (p .part-of .ensures) (c .before .before .before .put-krd .ensures)
+    (s .pre .0 .1) (s .pre .0 .2) (p .part-of .ensures) (c .before .before .before .put-krd .ensures)
 
 pub register-spec : {M : Type 1} → statement M
 register-spec =

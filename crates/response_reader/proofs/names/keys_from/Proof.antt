@@ -7,10 +7,10 @@ use Rattle.response_reader.proofs.names.keys_from.Statement.{statement}
 use Rattle.response_reader.proofs.names.keys_from.Tie as tie
 
 abbrev Inv-loop : tie.InvT-loop
-Inv-loop s from column₀ len₀ at₀ column len at = Keyed s from column len at
+Inv-loop s from at₀ len₀ place₀ at len place = Keyed s from at len place
 
 abbrev μ-loop : tie.MeasureT-loop
-μ-loop s from column₀ len₀ at₀ column len at = 8 - len
+μ-loop s from at₀ len₀ place₀ at len place = 8 - len
 
 loop-holds : tie.Need-loop-holds Inv-loop μ-loop
 loop-holds c = keyed-none _ _ _ refl
@@ -25,26 +25,14 @@ returns-2 : tie.Need-returns-2 Inv-loop μ-loop
 returns-2 c =
     keyed-bad (c .before .before .before .before .loop .inv) (c .before .before .if1 .left) (c .before .after-group .ensures) (c .if2 .taken)
 
-sub-start : tie.Need-sub-start Inv-loop μ-loop
-sub-start c = omega (arith, pair-is (c .before .after-group .ensures) (c .if2 .left))
+sub-at : tie.Need-sub-at Inv-loop μ-loop
+sub-at c = omega (arith, pair-is (c .before .after-group .ensures) (c .if2 .left))
 
-slice-aggregate-put-bytes : tie.Need-slice-aggregate-put-bytes Inv-loop μ-loop
-slice-aggregate-put-bytes c = search needs
+mul-at : tie.Need-mul-at Inv-loop μ-loop
+mul-at c = search needs
 
-mul-put-bytes : tie.Need-mul-put-bytes Inv-loop μ-loop
-mul-put-bytes c = search needs
-
-sub-put-bytes : tie.Need-sub-put-bytes Inv-loop μ-loop
-sub-put-bytes c = search needs
-
-part-put-bytes-start : tie.Need-part-put-bytes-start Inv-loop μ-loop
-part-put-bytes-start c = search needs
-
-part-put-bytes-end : tie.Need-part-put-bytes-end Inv-loop μ-loop
-part-put-bytes-end c = search needs
-
-put-bytes-requires : tie.Need-put-bytes-requires Inv-loop μ-loop
-put-bytes-requires c κs = search needs
+array-write-at : tie.Need-array-write-at Inv-loop μ-loop
+array-write-at c = search needs
 
 add-len : tie.Need-add-len Inv-loop μ-loop
 add-len c = search needs
@@ -54,11 +42,9 @@ loop-less c = search needs
 
 loop-again : tie.Need-loop-again Inv-loop μ-loop
 loop-again c =
-    let put = c .before in
-    let group = put .before .before .before .before in
-    let l = group .before .before .before in
-    keyed-next (l .loop .inv) (group .before .if1 .left) (group .after-group .ensures) (put .before .before .before .if2 .left)
-    (group .before .before .loop-test .taken) (put .put-bytes .ensures) (put .put-bytes .kept .0)
+    let l = c .before .before .before .before in
+    keyed-next (l .loop .inv) (c .before .before .if1 .left) (c .before .after-group .ensures) (c .if2 .left)
+    (c .before .before .before .loop-test .taken)
 
 returns-3 : tie.Need-returns-3 Inv-loop μ-loop
 returns-3 c = keyed-more (c .before .before .loop .inv) (c .before .loop-test .left) (c .if3 .taken)
@@ -76,13 +62,9 @@ keys-from-spec =
     returns
     after-group-requires
     returns-2
-    sub-start
-    slice-aggregate-put-bytes
-    mul-put-bytes
-    sub-put-bytes
-    part-put-bytes-start
-    part-put-bytes-end
-    put-bytes-requires
+    sub-at
+    mul-at
+    array-write-at
     add-len
     loop-less
     loop-again

@@ -9,7 +9,7 @@ put-tlv16-requires c κs = search needs
 
 put-pairs-requires : tie.Need-put-pairs-requires
 put-pairs-requires c κs =
-    let s = c .before .before .before .before .before .before in
+    let s = c .before .before .before .before .before .before .before .before in
     (s .pre .0, (s .pre .1 .0, omega arith))
 
 sub-put-header : tie.Need-sub-put-header

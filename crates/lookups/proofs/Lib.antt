@@ -1,0 +1,2 @@
+-- The laws of lookups.
+pub mod LookupLaws

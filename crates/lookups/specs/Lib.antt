@@ -1,0 +1,2 @@
+-- What a lookup finds.
+pub mod Chosen

@@ -1,0 +1,2 @@
+-- The laws of a table in its stored form.
+pub mod IndexLaws

@@ -1,0 +1,2 @@
+-- A table in its stored form, where it lies.
+pub mod Stored

@@ -1,0 +1,73 @@
+use mathlib.Core.Path.{_≡_, refl}
+use Prim.Native.Nat.{_-_, _≤_}
+use native.Mathlib.Omega.{arith}
+use lib.ListN.{length, take}
+use borrow.Author.Needs.{needs}
+use denote.Ref.{now}
+use Rattle.tlv.specs.Writing.{Wrote}
+use Rattle.stored_table.specs.Stored.{tableIn}
+use Rattle.stored_table.proofs.IndexLaws.{record-at, length-places, few-places}
+use Rattle.table_bytes.specs.Left.{stayingOf}
+use Rattle.table_bytes.proofs.LeftLaws.{left-none, left-room, left-more, left-all}
+use Rattle.table_bytes.proofs.left.put_removed.Statement.{statement}
+use Rattle.table_bytes.proofs.left.put_removed.Tie as tie
+
+abbrev Inv-loop : tie.InvT-loop
+Inv-loop out₀ b at mixed key end₀ i₀ out end i =
+    (i ≤ length at) × (length out ≡ length out₀) × Wrote out₀ 0 (stayingOf mixed key (take i (tableIn b))) end out end
+
+abbrev μ-loop : tie.MeasureT-loop
+μ-loop out₀ b at mixed key end₀ i₀ out end i = length at - i
+
+loop-holds : tie.Need-loop-holds Inv-loop μ-loop
+loop-holds c = (search needs, refl, left-none _ _ _ (tableIn (now (c .before .before .before .before .before .args .b))))
+
+mul-put-staying : tie.Need-mul-put-staying Inv-loop μ-loop
+mul-put-staying c = omega (arith, few-places (c .before .before .before .before .before .before .before .before .pre .0))
+
+shared-slice-read-put-staying : tie.Need-shared-slice-read-put-staying Inv-loop μ-loop
+shared-slice-read-put-staying c = search needs
+
+put-staying-requires : tie.Need-put-staying-requires Inv-loop μ-loop
+put-staying-requires c κs =
+    let l = c .before .before .before in
+    let s = l .before .before .before .before .before .before in
+    let i = l .loop .i in
+    let r = record-at (s .pre .0) i (omega arith) in
+    (r .stands, r .stored, omega (arith, r .stands, left-room _ _ (s .pre .0) i (omega arith) (l .loop .inv .2), s .pre))
+
+add-i : tie.Need-add-i Inv-loop μ-loop
+add-i c = search needs
+
+loop-less : tie.Need-loop-less Inv-loop μ-loop
+loop-less c = search needs
+
+loop-again : tie.Need-loop-again Inv-loop μ-loop
+loop-again c =
+    let l = c .before .before .before .before .before .before in
+    let s = l .before .before .before .before .before .before in
+    (search needs, search needs, left-more _ _ (s .pre .0) (l .loop .i) (omega arith) (l .loop .inv .2) (c .before .before .put-staying .ensures))
+
+same-length : tie.Need-same-length Inv-loop μ-loop
+same-length c = search needs
+
+returns : tie.Need-returns Inv-loop μ-loop
+returns c =
+    let s = c .before .before .before .before .before .before .before in
+    left-all _ _ (tableIn (now (s .args .b))) (c .before .loop .i) (omega (arith, length-places (s .pre .0))) (c .before .loop .inv .2)
+
+pub put-removed-spec : {M : Type 1} → statement M
+put-removed-spec =
+    tie.close
+    (tie.spec
+    Inv-loop
+    μ-loop
+    loop-holds
+    mul-put-staying
+    shared-slice-read-put-staying
+    put-staying-requires
+    add-i
+    loop-less
+    loop-again
+    same-length
+    returns)

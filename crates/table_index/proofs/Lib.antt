@@ -1,0 +1,3 @@
+-- The laws of reading a stored table.
+pub mod RunLaws
+pub mod LoadLaws

@@ -1,0 +1,2 @@
+-- What a reader of a stored table finds.
+pub mod Places
