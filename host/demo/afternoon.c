@@ -1,0 +1,196 @@
+#include "afternoon.h"
+
+#include "fail.h"
+#include "show.h"
+#include "tlv.h"
+
+struct caller caller_of(const struct firm *firm)
+{
+    return (struct caller){text(firm->app_id), WHOLE(firm->access_token.bytes)};
+}
+
+/* The hash of the access token followed by the AppID. */
+static struct hash mixed_of(struct caller caller)
+{
+    struct blob both;
+    both.size = caller.access_token.size + caller.app_id.size;
+    if (both.size > sizeof both.bytes)
+        fail_because("AppID", "too long");
+    memcpy(both.bytes, caller.access_token.at, caller.access_token.size);
+    memcpy(both.bytes + caller.access_token.size, caller.app_id.at, caller.app_id.size);
+    return sha256(FILLED(both));
+}
+
+static void found_firms(struct firm firms[FIRMS])
+{
+    static const char *const names[FIRMS][2] = {
+        {"Northgate", "https://northgate.example/tote"}, {"Hollin", "https://hollin.example/window"},
+        {"Ashby", "https://ashby.example/pools"},        {"Brock", "https://brock.example/pools"},
+        {"Carrow", "https://carrow.example/pools"},      {"Denby", "https://denby.example/pools"},
+    };
+    for (size_t i = 0; i < FIRMS; i++) {
+        firms[i].name = names[i][0];
+        firms[i].app_id = names[i][1];
+        /* the same in every afternoon, so that a firm finds its own records again */
+        firms[i].access_token = sha256(text(firms[i].name));
+        firms[i].mixed = mixed_of(caller_of(&firms[i]));
+    }
+}
+
+void afternoon_open(struct afternoon *a, const char *path, size_t *swept)
+{
+    found_firms(a->firms);
+    a->challenges = a->signatures = 0;
+    a->server.count = 0;
+    terminal_open(&a->terminal, path, swept);
+    archive_open(&a->archive, &a->terminal.store);
+}
+
+void afternoon_close(struct afternoon *a)
+{
+    archive_close(&a->archive);
+    terminal_close(&a->terminal);
+}
+
+/* ---- the table */
+
+size_t count_records(const struct afternoon *a, const struct firm *firm)
+{
+    size_t count = 0;
+    struct record record;
+    for (struct bytes rest = FILLED(a->terminal.table); record_next(&rest, &record);)
+        count += firm == NULL || same(record.mixed, WHOLE(firm->mixed.bytes));
+    return count;
+}
+
+struct hash key_id_of(const struct afternoon *a, size_t firm, const char *username)
+{
+    struct hash key_id;
+    struct record record;
+    for (struct bytes rest = FILLED(a->terminal.table); record_next(&rest, &record);) {
+        if (!same(record.mixed, WHOLE(a->firms[firm].mixed.bytes)) || !same(record.username, text(username)))
+            continue;
+        memcpy(key_id.bytes, record.key_id.at, sizeof key_id.bytes);
+        return key_id;
+    }
+    fail_because(username, "no such record");
+}
+
+static const char *holder_name(const struct afternoon *a, struct bytes mixed)
+{
+    for (size_t i = 0; i < FIRMS; i++)
+        if (same(WHOLE(a->firms[i].mixed.bytes), mixed))
+            return a->firms[i].name;
+    return "(unknown)";
+}
+
+void show_table(const struct afternoon *a)
+{
+    struct record record;
+    for (struct bytes rest = FILLED(a->terminal.table); record_next(&rest, &record);)
+        show("      %-10s %-10.*s SignCounter %u\n", holder_name(a, record.mixed), (int)record.username.size,
+             (const char *)record.username.at, (unsigned)record.count);
+}
+
+void require_same_table(const struct afternoon *a, const struct table *before)
+{
+    if (!same(FILLED(*before), FILLED(a->terminal.table)))
+        fail_because("table", "changed");
+}
+
+/* ---- the commands */
+
+static void run(struct afternoon *a, const struct request *request, size_t status, struct response *response)
+{
+    char why[128];
+    uint32_t refusal = terminal_run(&a->terminal, request, response);
+    if (refusal != 0) {
+        snprintf(why, sizeof why, "refusal %u", (unsigned)refusal);
+        fail_because("command", why);
+    }
+    if (response->status != status) {
+        snprintf(why, sizeof why, "%s, and not %s", status_name(response->status), status_name(status));
+        fail_because("command", why);
+    }
+}
+
+static void start_request(struct request *request, const struct firm *firm)
+{
+    request->mixed = firm->mixed;
+    request->content_hash = sha256(nothing()); /* Sign looks at its length even where there is no content */
+    request->verdict = UAF_VERIFIED;
+    request->display = UAF_SHOWN_CONFIRMED;
+    request->attestation = 0;
+}
+
+/* What the server wants to see signed: never the same twice. */
+struct challenge {
+    char letters[64];
+};
+
+static struct challenge new_challenge(struct afternoon *a, const struct firm *firm)
+{
+    struct challenge challenge;
+    uint8_t fresh[4];
+    random_bytes(fresh, sizeof fresh);
+    snprintf(challenge.letters, sizeof challenge.letters, "%s, challenge %u, %08x", firm->name, ++a->challenges,
+             (unsigned)number(WHOLE(fresh)));
+    return challenge;
+}
+
+void get_info(struct afternoon *a, struct response *response)
+{
+    struct request request;
+    start_request(&request, &a->firms[NORTHGATE]); /* anybody's: GetInfo looks at the profile only */
+    command_get_info(&request.command);
+    run(a, &request, 0, response);
+}
+
+void enrol(
+    struct afternoon *a, size_t firm, const char *username, uint16_t attestation, size_t status,
+    struct response *response)
+{
+    struct caller caller = caller_of(&a->firms[firm]);
+    struct challenge challenge = new_challenge(a, &a->firms[firm]);
+    struct hash challenge_hash = sha256(text(challenge.letters));
+    struct request request;
+    start_request(&request, &a->firms[firm]);
+    request.attestation = attestation;
+    command_register(&request.command, caller, WHOLE(challenge_hash.bytes), text(username), attestation);
+    run(a, &request, status, response);
+    if (response->signed_length == 0)
+        return;
+
+    char name[48];
+    snprintf(name, sizeof name, "register-%s-%s", a->firms[firm].name, username);
+    archive_add(&a->archive, name, &(struct asked){caller, challenge.letters, ""}, response);
+    server_enrol(&a->server, username, text(challenge.letters), response);
+}
+
+const struct account *sign(struct afternoon *a, struct signing what, size_t status, struct response *response)
+{
+    struct caller caller = caller_of(&a->firms[what.firm]);
+    struct challenge challenge = new_challenge(a, &a->firms[what.firm]);
+    struct hash challenge_hash = sha256(text(challenge.letters));
+    struct request request;
+    start_request(&request, &a->firms[what.firm]);
+    request.display = what.display;
+    request.content_hash = sha256(text(what.content));
+    command_sign(&request.command, caller, WHOLE(challenge_hash.bytes), text(what.content), what.key_handle);
+    run(a, &request, status, response);
+    if (response->signed_length == 0)
+        return NULL;
+
+    char name[48];
+    snprintf(name, sizeof name, "sign-%u", ++a->signatures);
+    archive_add(&a->archive, name, &(struct asked){caller, challenge.letters, what.content}, response);
+    return server_book(&a->server, text(challenge.letters), text(what.content), response);
+}
+
+void leave(struct afternoon *a, size_t firm, struct bytes key_id, size_t status, struct response *response)
+{
+    struct request request;
+    start_request(&request, &a->firms[firm]);
+    command_deregister(&request.command, caller_of(&a->firms[firm]), key_id);
+    run(a, &request, status, response);
+}

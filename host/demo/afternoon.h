@@ -1,0 +1,63 @@
+/* The firms, and what they ask of the token through the terminal. Each command knows the status it must get, and another one
+ * ends the program. What a completed response holds is kept for the signature check and shown to the firm's server. */
+#ifndef DEMO_AFTERNOON_H
+#define DEMO_AFTERNOON_H
+
+#include "archive.h"
+#include "server.h"
+#include "terminal.h"
+
+/* A betting firm. Its access token and AppID go into every command, and their hash is its mixed token. */
+struct firm {
+    const char *name;
+    const char *app_id;
+    struct hash access_token;
+    struct hash mixed;
+};
+
+enum { NORTHGATE, HOLLIN, FIRST_OTHER, FIRMS = FIRST_OTHER + 4 };
+
+struct afternoon {
+    struct terminal terminal;
+    struct server server;
+    struct archive archive;
+    struct firm firms[FIRMS];
+    unsigned challenges;
+    unsigned signatures;
+};
+
+/* Opens the state folder, see terminal_open. */
+void afternoon_open(struct afternoon *a, const char *path, size_t *swept);
+void afternoon_close(struct afternoon *a);
+
+struct caller caller_of(const struct firm *firm);
+
+/* The records of a firm, or of all for NULL. */
+size_t count_records(const struct afternoon *a, const struct firm *firm);
+
+/* The KeyID of a seller's record, which must be there. */
+struct hash key_id_of(const struct afternoon *a, size_t firm, const char *username);
+
+void show_table(const struct afternoon *a);
+void require_same_table(const struct afternoon *a, const struct table *before);
+
+void get_info(struct afternoon *a, struct response *response);
+
+void enrol(
+    struct afternoon *a, size_t firm, const char *username, uint16_t attestation, size_t status,
+    struct response *response);
+
+struct signing {
+    size_t firm;
+    struct bytes key_handle; /* of no bytes: none is given */
+    const char *content;     /* "" is none */
+    uint8_t display;         /* what the display says to the content */
+};
+
+/* Gives the account that the server books it to, or NULL where nothing was signed. */
+const struct account *sign(struct afternoon *a, struct signing what, size_t status, struct response *response);
+
+/* A KeyID of no bytes: all records of the firm. */
+void leave(struct afternoon *a, size_t firm, struct bytes key_id, size_t status, struct response *response);
+
+#endif

@@ -1,0 +1,123 @@
+#include "edges.h"
+
+#include "fail.h"
+#include "show.h"
+#include "tlv.h"
+
+/* Sets a record's SignCounter: COUNTERS is the last child of a stored record, so these are its last 4 bytes. */
+static void set_count(struct table *table, struct bytes key_id, uint32_t count)
+{
+    struct record record;
+    for (struct bytes rest = FILLED(*table); record_next(&rest, &record);) {
+        if (!same(record.key_id, key_id))
+            continue;
+        uint8_t *counter = table->bytes + (rest.at - table->bytes) - 4;
+        for (size_t i = 0; i < 4; i++)
+            counter[i] = (uint8_t)(count >> (8 * i));
+        return;
+    }
+    fail_because("record", "none with this KeyID");
+}
+
+/* Runs the same Sign on a table, without a terminal around it. */
+static void sign_on(const struct afternoon *a, struct bytes key_handle, const struct table *table, struct answer *answer)
+{
+    const uint8_t nonce[8] = {0};
+    const struct hash any = sha256(nothing());
+    struct command command;
+    command_sign(&command, caller_of(&a->firms[NORTHGATE]), WHOLE(any.bytes), nothing(), key_handle);
+    const struct lent lent = {
+        .verdict = UAF_VERIFIED,
+        .display = UAF_SHOWN_CONFIRMED,
+        .mixed = WHOLE(a->firms[NORTHGATE].mixed.bytes),
+        .key_id = nothing(),
+        .public_key = nothing(),
+        .nonce = WHOLE(nonce),
+        .content_hash = WHOLE(any.bytes),
+    };
+    if (token_command(FILLED(command), &lent, table, answer) != 0)
+        fail_because("Sign", "refused");
+}
+
+void last_count(const struct afternoon *a)
+{
+    static struct answer last, beyond;
+    const struct hash ann = key_id_of(a, NORTHGATE, "Ann");
+    struct table copy = a->terminal.table;
+    struct record record;
+    struct response response;
+    show("\n8. The last count, on a copy of the table in which Ann's is 4294967294\n");
+    set_count(&copy, WHOLE(ann.bytes), UINT32_MAX - 1);
+
+    show("  > Northgate: Sign with Ann's key handle\n");
+    sign_on(a, WHOLE(ann.bytes), &copy, &last);
+    if (last.kind != UAF_DRAFT || !record_find(&last.left, WHOLE(ann.bytes), &record) || record.count != UINT32_MAX)
+        fail_because("Sign", "the last count is not given");
+    show("  < a draft to sign, %zu bytes; Ann's SignCounter is %u\n", last.size, (unsigned)record.count);
+
+    show("  > Northgate: the same again\n");
+    sign_on(a, WHOLE(ann.bytes), &last.left, &beyond);
+    memcpy(response.bytes, beyond.bytes, beyond.size);
+    response.size = beyond.size;
+    if (beyond.kind != UAF_RESPONSE || token_read(&response) != 0 || response.status != 0x01)
+        fail_because("Sign", "a count beyond the last");
+    if (!same(FILLED(beyond.left), FILLED(last.left)))
+        fail_because("table", "changed");
+    show_response(&response);
+    show("  = no count comes twice\n");
+}
+
+/* ---- refusals */
+
+enum { MARK = 0xA5 };
+
+/* A refusal must have its number, and must leave each byte that was lent for the outcome as it was marked before. */
+static void show_refusal(const char *asked, uint32_t refusal, uint32_t expected, const void *outputs, size_t size)
+{
+    const uint8_t *at = outputs;
+    if (refusal != expected)
+        fail_because(asked, "another number than expected");
+    for (size_t i = 0; i < size; i++)
+        if (at[i] != MARK)
+            fail_because(asked, "a refusal that wrote");
+    show("  > %-52s < refusal %u\n", asked, (unsigned)refusal);
+}
+
+static void refuse_command(
+    const char *asked, struct bytes command, struct bytes nonce, const struct table *table, uint32_t expected)
+{
+    struct hash any = sha256(nothing());
+    struct lent lent = {
+        UAF_VERIFIED, UAF_SHOWN_CONFIRMED, WHOLE(any.bytes), WHOLE(any.bytes), WHOLE(any.bytes), nonce, WHOLE(any.bytes)};
+    struct answer answer;
+    memset(&answer, MARK, sizeof answer);
+    uint32_t refusal = token_command(command, &lent, table, &answer);
+    show_refusal(asked, refusal, expected, &answer, sizeof answer);
+}
+
+/* A response output that is one byte short, or long enough, for a draft that is none. */
+static void refuse_completion(const char *asked, size_t shortage, uint32_t expected)
+{
+    const struct bytes draft = text("no draft"), signature = text("any"), none = nothing();
+    struct response response;
+    memset(&response, MARK, sizeof response);
+    uint32_t refusal = uaf_complete(
+        UAF_COMPLETE_SIGN, draft.at, draft.size, 0, signature.at, signature.size, none.at, none.size, response.bytes,
+        sizeof response.bytes - shortage, &response.size);
+    show_refusal(asked, refusal, expected, &response, sizeof response);
+}
+
+void refusals(const struct afternoon *a)
+{
+    const uint8_t info[] = {0x01, 0x34, 0x00, 0x00}, sign_tag[] = {0x03, 0x34, 0x00, 0x00}, nonce[8] = {0};
+    const struct bytes three = {info, 3}, seven = {nonce, 7};
+    const struct table *table = &a->terminal.table;
+    struct table damaged = *table;
+    damaged.size -= 1;
+    show("\n9. Whatever reaches the port: a number from 1 to 5, and no lent byte is changed\n");
+    refuse_completion("an output of 4,095 bytes", 1, UAF_REFUSED_OUTPUT);
+    refuse_command("a stored table that lost its last byte", WHOLE(info), WHOLE(nonce), &damaged, UAF_REFUSED_TABLE);
+    refuse_command("a command of 3 bytes", three, WHOLE(nonce), table, UAF_REFUSED_COMMAND);
+    refuse_command("a Sign that is lent a nonce of 7 bytes", WHOLE(sign_tag), seven, table, UAF_REFUSED_LENT);
+    refuse_completion("a draft to complete that is none", 0, UAF_REFUSED_BYTES);
+}

@@ -1,0 +1,23 @@
+#include "records.h"
+
+#include "tlv.h"
+
+bool record_next(struct bytes *rest, struct record *record)
+{
+    uint16_t tag;
+    struct bytes children, counter;
+    if (!tlv_next(rest, &tag, &children) || !tlv_find(children, TAG_KEYID, &record->key_id)
+        || !tlv_find(children, TAG_KEYHANDLE_ACCESS_TOKEN, &record->mixed)
+        || !tlv_find(children, TAG_USERNAME, &record->username) || !tlv_find(children, TAG_COUNTERS, &counter))
+        return false;
+    record->count = number(counter);
+    return true;
+}
+
+bool record_find(const struct table *table, struct bytes key_id, struct record *record)
+{
+    for (struct bytes rest = FILLED(*table); record_next(&rest, record);)
+        if (same(record->key_id, key_id))
+            return true;
+    return false;
+}

@@ -1,0 +1,257 @@
+/* Fuzzes uaf_command: one to four calls, the first on a table that the input has, each later one on the table that the last one left.
+ *
+ *     8   flags: 1 buffers stand after the front guard page, 2 the table is given by records
+ *     16  size of the table's part, then the part: the stored form or, by records, 8 bytes for each: number of the KeyID, number of the
+ *         holder, size of the name, its one letter, the counter (32)
+ *     then each call:
+ *     8   flags: 1 the command's outer length is put right
+ *     8   verdict, display's result, number of the holder, number of the KeyID, a byte that fills the other lent stretches
+ *     8   sizes of AAID, metadata, mixed token, KeyID, nonce, hash and public key, as take_size has them
+ *     8   by how much (signed) response and table output are longer than their least; -128 makes them empty
+ *     8   0, or up to which size a skipped child fills the command: 8,188 and 1 to 16 more, or else so many times 256
+ *     16  size of the command, then the command */
+#include <string.h>
+
+#include "harness.h"
+#include "peer.h"
+
+enum {
+    MOST_CALLS = 4,
+    MOST_TABLE = UINT16_MAX,
+    MOST_COMMAND = 1 << 17,
+    RECORD_PART = 8,
+    MOST_RECORD = 4 + 36 + 36 + 4 + UINT8_MAX + 8,
+};
+
+/* The input's second flag, and a call's. */
+enum { BY_RECORDS = 2 };
+enum { MEND_OUTER = 1 };
+
+static struct {
+    struct input command, aaid, metadata, mixed, key_id, public_key, nonce, hash, table;
+    struct output response, table_out, answer, response_length, table_length;
+} lent;
+
+static void open_all(void)
+{
+    static bool open;
+    if (open)
+        return;
+    lent.command = open_input(MOST_COMMAND);
+    lent.aaid = open_input(MOST_SIZE);
+    lent.metadata = open_input(MOST_SIZE);
+    lent.mixed = open_input(MOST_SIZE);
+    lent.key_id = open_input(MOST_SIZE);
+    lent.public_key = open_input(MOST_SIZE);
+    lent.nonce = open_input(MOST_SIZE);
+    lent.hash = open_input(MOST_SIZE);
+    lent.table = open_input(MOST_TABLE);
+    lent.response = open_output(UAF_LEAST_RESPONSE + INT8_MAX);
+    lent.table_out = open_output(UAF_LEAST_TABLE + INT8_MAX);
+    lent.answer = open_output(sizeof(uint32_t));
+    lent.response_length = open_output(sizeof(size_t));
+    lent.table_length = open_output(sizeof(size_t));
+    open = true;
+}
+
+/* KeyIDs and mixed tokens have numbers, so that they meet again: sixteen of one repeated byte, and of each fifteen that differ from it in one
+ * place. */
+static void numbered(uint8_t *bytes, size_t size, unsigned number)
+{
+    memset(bytes, (int)(number & 0x0F), size);
+    size_t differs = 2 * (number >> 4) + 1;
+    if (number >> 4 != 0 && differs < size)
+        bytes[differs] ^= 0x10;
+}
+
+static uint8_t *put_header(uint8_t *at, unsigned tag, size_t size)
+{
+    *at++ = (uint8_t)tag;
+    *at++ = (uint8_t)(tag >> 8);
+    *at++ = (uint8_t)size;
+    *at++ = (uint8_t)(size >> 8);
+    return at;
+}
+
+/* The stored form of one record. */
+static uint8_t *put_record(uint8_t *at, struct source *part)
+{
+    unsigned key = take8(part), holder = take8(part);
+    size_t name_size = take8(part);
+    int letter = take8(part);
+    at = put_header(at, 0x3802, 36 + 36 + 4 + name_size + 8);
+    at = put_header(at, 0x2E09, 32);
+    numbered(at, 32, key);
+    at = put_header(at + 32, 0x2805, 32);
+    numbered(at, 32, holder);
+    at = put_header(at + 32, 0x2806, name_size);
+    memset(at, letter, name_size);
+    at = put_header(at + name_size, 0x2E0D, 4);
+    for (int i = 0; i < 4; i++)
+        *at++ = take8(part);
+    return at;
+}
+
+/* The first call's table. */
+static size_t take_table(struct source *source, bool by_records)
+{
+    uint8_t *table = lent.table.peer;
+    size_t size = take16(source);
+    const uint8_t *bytes = take(source, &size);
+    if (!by_records) {
+        memcpy(table, bytes, size);
+        return size;
+    }
+    struct source part = {bytes, size};
+    uint8_t *end = table;
+    while (part.left >= RECORD_PART && (size_t)(end - table) + MOST_RECORD <= MOST_TABLE)
+        end = put_record(end, &part);
+    return (size_t)(end - table);
+}
+
+/* The size that a command is filled up to, mostly about the greatest. */
+static size_t take_goal(struct source *source)
+{
+    size_t code = take8(source);
+    return code > 0 && code <= 16 ? 8188 + code : 256 * code;
+}
+
+static size_t take_command(struct source *source, unsigned flags)
+{
+    uint8_t *command = lent.command.peer;
+    size_t goal = take_goal(source);
+    size_t size = take16(source);
+    const uint8_t *bytes = take(source, &size);
+    memcpy(command, bytes, size);
+    if (size + 4 <= goal) {
+        size_t filler = goal - size - 4;
+        memset(put_header(command + size, 0x0FFF, filler), 0xA5, filler);
+        size = goal;
+    }
+    if ((flags & MEND_OUTER) != 0 && size >= 4) {
+        command[2] = (uint8_t)(size - 4);
+        command[3] = (uint8_t)((size - 4) >> 8);
+    }
+    return size;
+}
+
+/* The lent results that are numbers. */
+struct numbers {
+    uint8_t verdict, display;
+    uint16_t version, signature_algorithm, key_algorithm;
+};
+
+static void lend_numbered(struct input *input, size_t size, unsigned number, bool front)
+{
+    numbered(input->peer, size, number);
+    lend_input(input, size, front);
+}
+
+static struct numbers take_results(struct source *source, bool front)
+{
+    uint8_t verdict = take8(source), display = take8(source), holder = take8(source), key = take8(source), fill = take8(source);
+    lend_filled(&lent.aaid, take_size(source), fill, front);
+    lend_filled(&lent.metadata, take_size(source), fill + 1u, front);
+    lend_numbered(&lent.mixed, take_size(source), holder, front);
+    lend_numbered(&lent.key_id, take_size(source), key, front);
+    lend_filled(&lent.nonce, take_size(source), fill + 2u, front);
+    lend_filled(&lent.hash, take_size(source), fill + 3u, front);
+    lend_filled(&lent.public_key, take_size(source), fill + 4u, front);
+    uint16_t version = (uint16_t)(fill * 257u);
+    return (struct numbers){verdict, display, version, (uint16_t)(version ^ 0x1234), (uint16_t)~version};
+}
+
+static void lend_outputs(struct source *source, bool front)
+{
+    lend_output(&lent.response, take_output_size(source, UAF_LEAST_RESPONSE), front);
+    lend_output(&lent.table_out, take_output_size(source, UAF_LEAST_TABLE), front);
+    lend_output(&lent.answer, sizeof(uint32_t), front);
+    lend_output(&lent.response_length, sizeof(size_t), front);
+    lend_output(&lent.table_length, sizeof(size_t), front);
+}
+
+static void check_inputs(void)
+{
+    check_input(&lent.command, "command");
+    check_input(&lent.aaid, "aaid");
+    check_input(&lent.metadata, "metadata");
+    check_input(&lent.mixed, "mixed");
+    check_input(&lent.key_id, "key_id");
+    check_input(&lent.public_key, "public_key");
+    check_input(&lent.nonce, "nonce");
+    check_input(&lent.hash, "hash");
+    check_input(&lent.table, "table");
+}
+
+/* Refusal, status or draft; by command; by how much of a table is left. */
+static void cover_answer(uint32_t refusal, uint32_t answer, size_t table_length)
+{
+    size_t kind = lent.command.size > 0 ? lent.command.peer[0] & 7 : 7;
+    size_t outcome = 32 + refusal;
+    if (refusal == 0) {
+        const uint8_t *response = lent.response.token;
+        /* A status is below 17, and byte 2 of a draft's ASSERTION_INFO is its mode. */
+        outcome = answer == UAF_DRAFT ? 24u + (response[23] & 7u) : response[8] + (response[2] > 6 ? 40u : 0u);
+    }
+    size_t filled = table_length == 0 ? 0 : 1 + table_length / 1000;
+    cover((outcome * 8 + kind) * 8 + filled % 8);
+}
+
+/* Both make the call; gives the size of the table left, which is then the table's. */
+static size_t call(const struct numbers *n)
+{
+    uint32_t refusal = uaf_command(
+        lent.command.token, lent.command.size, lent.aaid.token, lent.aaid.size, n->version, n->signature_algorithm,
+        n->key_algorithm, lent.metadata.token, lent.metadata.size, n->verdict, n->display, lent.mixed.token, lent.mixed.size,
+        lent.key_id.token, lent.key_id.size, lent.public_key.token, lent.public_key.size, lent.nonce.token, lent.nonce.size,
+        lent.hash.token, lent.hash.size, lent.table.token, lent.table.size, lent.response.token, lent.response.size,
+        lent.table_out.token, lent.table_out.size, (uint32_t *)lent.answer.token, (size_t *)lent.response_length.token,
+        (size_t *)lent.table_length.token);
+    uint32_t peers = peer_command(
+        lent.command.peer, lent.command.size, lent.aaid.peer, lent.aaid.size, n->version, n->signature_algorithm,
+        n->key_algorithm, lent.metadata.peer, lent.metadata.size, n->verdict, n->display, lent.mixed.peer, lent.mixed.size,
+        lent.key_id.peer, lent.key_id.size, lent.public_key.peer, lent.public_key.size, lent.nonce.peer, lent.nonce.size,
+        lent.hash.peer, lent.hash.size, lent.table.peer, lent.table.size, lent.response.peer, lent.response.size,
+        lent.table_out.peer, lent.table_out.size, (uint32_t *)lent.answer.peer, (size_t *)lent.response_length.peer,
+        (size_t *)lent.table_length.peer);
+    check_returned(refusal, peers);
+
+    bool served = refusal == 0;
+    uint32_t answer = 0;
+    size_t response_length = 0, table_length = 0;
+    if (served) {
+        memcpy(&answer, lent.answer.token, sizeof answer);
+        memcpy(&response_length, lent.response_length.token, sizeof response_length);
+        memcpy(&table_length, lent.table_length.token, sizeof table_length);
+    }
+    check_output(&lent.answer, served ? sizeof answer : 0, "answer");
+    check_output(&lent.response_length, served ? sizeof response_length : 0, "response_length");
+    check_output(&lent.table_length, served ? sizeof table_length : 0, "table_length");
+    check_output(&lent.response, response_length, "response");
+    check_output(&lent.table_out, table_length, "table_out");
+    check_inputs();
+    if (served)
+        memcpy(lent.table.peer, lent.table_out.token, table_length);
+    else
+        table_length = lent.table.size;
+    cover_answer(refusal, answer, table_length);
+    return table_length;
+}
+
+int LLVMFuzzerTestOneInput(const uint8_t *data, size_t size)
+{
+    struct source source = {data, size};
+    open_all();
+    unsigned flags = take8(&source);
+    bool front = (flags & FRONT) != 0;
+    size_t table_size = take_table(&source, (flags & BY_RECORDS) != 0);
+    for (int calls = 0; calls < MOST_CALLS && (calls == 0 || source.left > 0); calls++) {
+        unsigned how = take8(&source);
+        struct numbers numbers = take_results(&source, front);
+        lend_outputs(&source, front);
+        lend_input(&lent.command, take_command(&source, how), front);
+        lend_input(&lent.table, table_size, front);
+        table_size = call(&numbers);
+    }
+    return 0;
+}

@@ -1,0 +1,39 @@
+/* The peer's entries: the token's, by another implementation. */
+#ifndef PEER_H
+#define PEER_H
+
+#include "uaf_token.h"
+
+uint32_t peer_command(
+    const uint8_t *command, size_t command_size,
+    const uint8_t *aaid, size_t aaid_size,
+    uint16_t version, uint16_t signature_algorithm, uint16_t key_algorithm,
+    const uint8_t *metadata, size_t metadata_size,
+    uint8_t verdict, uint8_t display,
+    const uint8_t *mixed, size_t mixed_size,
+    const uint8_t *key_id, size_t key_id_size,
+    const uint8_t *public_key, size_t public_key_size,
+    const uint8_t *nonce, size_t nonce_size,
+    const uint8_t *hash, size_t hash_size,
+    const uint8_t *table, size_t table_size,
+    uint8_t *response, size_t response_size,
+    uint8_t *table_out, size_t table_out_size,
+    uint32_t *answer, size_t *response_length, size_t *table_length);
+
+uint32_t peer_complete(
+    uint32_t kind,
+    const uint8_t *draft, size_t draft_size,
+    uint32_t attestation,
+    const uint8_t *signature, size_t signature_size,
+    const uint8_t *certificate, size_t certificate_size,
+    uint8_t *response, size_t response_size,
+    size_t *response_length);
+
+uint32_t peer_signed_part(const uint8_t *response, size_t response_size, size_t *place, size_t *length);
+
+uint32_t peer_read_fields(
+    const uint8_t *response, size_t response_size,
+    size_t *tag, size_t *status, size_t *count,
+    size_t tags[UAF_MOST_FIELDS], size_t places[UAF_MOST_FIELDS], size_t lengths[UAF_MOST_FIELDS]);
+
+#endif

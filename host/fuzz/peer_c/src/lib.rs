@@ -1,0 +1,160 @@
+//! The independent implementation behind the token's C interface, so that a fuzz target can call both
+//! alike. A refusal leaves the lent numbers as they are.
+
+use core::slice;
+use uaf_peer::{Answer, Lent, Profile, Refusal, MOST_FIELDS};
+
+/// Numbers as the C interface has them.
+const RESPONSE: u32 = 0;
+const DRAFT: u32 = 1;
+
+/// Gives 0 and does the rest, or gives the refusal.
+fn number<T>(result: Result<T, Refusal>, write: impl FnOnce(T)) -> u32 {
+    match result {
+        Ok(given) => {
+            write(given);
+            0
+        }
+        Err(refusal) => refusal as u32,
+    }
+}
+
+/// # Safety
+///
+/// As `uaf_command` in `uaf_token.h`.
+#[no_mangle]
+pub unsafe extern "C" fn peer_command(
+    command: *const u8,
+    command_size: usize,
+    aaid: *const u8,
+    aaid_size: usize,
+    version: u16,
+    signature_algorithm: u16,
+    key_algorithm: u16,
+    metadata: *const u8,
+    metadata_size: usize,
+    verdict: u8,
+    display: u8,
+    mixed: *const u8,
+    mixed_size: usize,
+    key_id: *const u8,
+    key_id_size: usize,
+    public_key: *const u8,
+    public_key_size: usize,
+    nonce: *const u8,
+    nonce_size: usize,
+    hash: *const u8,
+    hash_size: usize,
+    table: *const u8,
+    table_size: usize,
+    response: *mut u8,
+    response_size: usize,
+    table_out: *mut u8,
+    table_out_size: usize,
+    answer: *mut u32,
+    response_length: *mut usize,
+    table_length: *mut usize,
+) -> u32 {
+    let lent = Lent {
+        profile: Profile {
+            aaid: slice::from_raw_parts(aaid, aaid_size),
+            version,
+            signature_algorithm,
+            key_algorithm,
+            metadata: slice::from_raw_parts(metadata, metadata_size),
+        },
+        verdict,
+        display,
+        mixed: slice::from_raw_parts(mixed, mixed_size),
+        key_id: slice::from_raw_parts(key_id, key_id_size),
+        public_key: slice::from_raw_parts(public_key, public_key_size),
+        nonce: slice::from_raw_parts(nonce, nonce_size),
+        hash: slice::from_raw_parts(hash, hash_size),
+    };
+    let result = uaf_peer::command(
+        slice::from_raw_parts(command, command_size),
+        &lent,
+        slice::from_raw_parts(table, table_size),
+        slice::from_raw_parts_mut(response, response_size),
+        slice::from_raw_parts_mut(table_out, table_out_size),
+    );
+    number(result, |served| {
+        let (what, length) = match served.answer {
+            Answer::Response(length) => (RESPONSE, length),
+            Answer::Draft(length) => (DRAFT, length),
+        };
+        *answer = what;
+        *response_length = length;
+        *table_length = served.table_length;
+    })
+}
+
+/// # Safety
+///
+/// As `uaf_complete` in `uaf_token.h`.
+#[no_mangle]
+pub unsafe extern "C" fn peer_complete(
+    kind: u32,
+    draft: *const u8,
+    draft_size: usize,
+    attestation: u32,
+    signature: *const u8,
+    signature_size: usize,
+    certificate: *const u8,
+    certificate_size: usize,
+    response: *mut u8,
+    response_size: usize,
+    response_length: *mut usize,
+) -> u32 {
+    let result = uaf_peer::complete(
+        kind,
+        slice::from_raw_parts(draft, draft_size),
+        attestation,
+        slice::from_raw_parts(signature, signature_size),
+        slice::from_raw_parts(certificate, certificate_size),
+        slice::from_raw_parts_mut(response, response_size),
+    );
+    number(result, |length| *response_length = length)
+}
+
+/// # Safety
+///
+/// As `uaf_signed_part` in `uaf_token.h`.
+#[no_mangle]
+pub unsafe extern "C" fn peer_signed_part(
+    response: *const u8,
+    response_size: usize,
+    place: *mut usize,
+    length: *mut usize,
+) -> u32 {
+    let result = uaf_peer::signed_part(slice::from_raw_parts(response, response_size));
+    number(result, |part| {
+        *place = part.start;
+        *length = part.len();
+    })
+}
+
+/// # Safety
+///
+/// As `uaf_read_fields` in `uaf_token.h`.
+#[no_mangle]
+pub unsafe extern "C" fn peer_read_fields(
+    response: *const u8,
+    response_size: usize,
+    tag: *mut usize,
+    status: *mut usize,
+    count: *mut usize,
+    tags: *mut [usize; MOST_FIELDS],
+    places: *mut [usize; MOST_FIELDS],
+    lengths: *mut [usize; MOST_FIELDS],
+) -> u32 {
+    let result = uaf_peer::read_fields(slice::from_raw_parts(response, response_size));
+    number(result, |read| {
+        *tag = read.tag.into();
+        *status = read.status.into();
+        *count = read.count;
+        *tags = read.fields.map(|field| field.tag.into());
+        *places = read.fields.map(|field| field.place);
+        *lengths = read.fields.map(|field| field.length);
+    })
+}

@@ -1,0 +1,166 @@
+//! What must occur, so that no class of calls goes untried.
+
+use crate::gen_response;
+use crate::report::{completion_name, name_of, Class, Entry, Outcome, OTHER};
+use crate::tlv::Kind;
+
+/// What a command can answer besides a status alone, as a command and when it is read.
+fn answers(kind: Kind, read: bool) -> Vec<Outcome> {
+    match kind {
+        Kind::GetInfo => vec![Outcome::Info],
+        Kind::Register if read => vec![Outcome::Full, Outcome::Surrogate],
+        Kind::Register => vec![Outcome::Registration],
+        Kind::Sign => {
+            let mut answers: Vec<Outcome> = (2..=8).map(Outcome::List).collect();
+            answers.extend([Outcome::Signed, Outcome::SignedContent]);
+            answers
+        }
+        Kind::Deregister | Kind::OpenSettings => vec![],
+    }
+}
+
+/// The faults of which each must have been the only one of some call.
+pub const FAULTS: [&str; 79] = [
+    "output: response too short",
+    "output: table too short",
+    "table: over 32 records",
+    "table: nine of a holder",
+    "table: KeyID twice",
+    "table: name of 0",
+    "table: name over 128",
+    "table: children's order",
+    "table: child's tag",
+    "table: child's length",
+    "table: child too few or too many",
+    "table: record's tag",
+    "table: record's length",
+    "table: cut short",
+    "table: stray bytes",
+    "table: no record",
+    "outer: fewer than 4 bytes",
+    "outer: no command's tag",
+    "lent: AAID's length",
+    "lent: metadata's length",
+    "lent: verdict over 5",
+    "lent: display result over 3",
+    "lent: mixed token's length",
+    "lent: KeyID's length",
+    "lent: public key's length",
+    "lent: nonce's length",
+    "lent: hash's length",
+    "body: mandatory child missing",
+    "body: child's length",
+    "body: index not 0",
+    "body: listed child twice",
+    "body: critical child",
+    "body: another command's child",
+    "body: over 8 handles",
+    "body: handle's length",
+    "body: malformed composite",
+    "body: level 9",
+    "body: over 8,192 bytes",
+    "body: outer length too small",
+    "body: outer length too great",
+    "body: last child too long",
+    "body: stray bytes",
+    "body: bytes after the command",
+    "draft: kind",
+    "draft: other kind's",
+    "draft: child's length",
+    "draft: mode",
+    "draft: counters",
+    "draft: children's order",
+    "draft: child's tag",
+    "draft: child missing",
+    "draft: child too many",
+    "draft: cut short",
+    "draft: bytes after",
+    "draft: length",
+    "draft: tag",
+    "completion: signature's length",
+    "completion: attestation type",
+    "completion: certificate's length",
+    "completion: certificate for surrogate",
+    "response: status not the command's",
+    "response: tag",
+    "response: GetInfo's",
+    "response: draft alone",
+    "response: no draft in it",
+    "response: KeyID twice in a list",
+    "response: list of 0, 1 or over 8",
+    "response: attestation tag",
+    "response: certificate too many",
+    "response: certificate's length",
+    "response: certificate first",
+    "response: signature's length",
+    "response: name's length",
+    "response: KeyID's length",
+    "response: pair's order",
+    "response: child too many",
+    "response: cut short",
+    "response: bytes after",
+    "response: length",
+];
+
+/// Every refusal, status and other answer of every entry.
+pub fn classes() -> Vec<Class> {
+    let mut must = Vec::new();
+    let mut add = |entry, subject, outcomes: &[Outcome]| {
+        for &outcome in outcomes {
+            must.push(Class {
+                entry,
+                subject,
+                outcome,
+            });
+        }
+    };
+    let refusals = |numbers: &[u32]| -> Vec<Outcome> {
+        numbers.iter().copied().map(Outcome::Refusal).collect()
+    };
+    for kind in Kind::ALL {
+        let name = name_of(kind);
+        let alone: Vec<Outcome> = gen_response::alone(kind)
+            .iter()
+            .copied()
+            .map(Outcome::Status)
+            .collect();
+        // Open settings uses nothing that is lent.
+        let numbers: &[u32] = match kind {
+            Kind::OpenSettings => &[1, 2],
+            _ => &[1, 2, 4],
+        };
+        add(Entry::Command, name, &refusals(numbers));
+        add(Entry::Command, name, &alone);
+        add(Entry::Command, name, &answers(kind, false));
+        add(Entry::ReadFields, name, &refusals(&[5]));
+        add(Entry::ReadFields, name, &alone);
+        add(Entry::ReadFields, name, &answers(kind, true));
+        add(Entry::SignedPart, name, &refusals(&[5]));
+        add(Entry::SignedPart, name, &[Outcome::NoPart]);
+    }
+    for kind in [Kind::Register, Kind::Sign] {
+        add(Entry::SignedPart, name_of(kind), &[Outcome::Part]);
+    }
+    add(Entry::Command, OTHER, &refusals(&[1, 2, 3]));
+    add(Entry::SignedPart, OTHER, &refusals(&[5]));
+    add(Entry::ReadFields, OTHER, &refusals(&[5]));
+    for kind in [0, 1] {
+        add(
+            Entry::Complete,
+            completion_name(kind),
+            &refusals(&[1, 4, 5]),
+        );
+    }
+    add(Entry::Complete, completion_name(2), &refusals(&[1, 5]));
+    add(
+        Entry::Complete,
+        completion_name(0),
+        &[Outcome::Full, Outcome::Surrogate],
+    );
+    add(
+        Entry::Complete,
+        completion_name(1),
+        &[Outcome::Signed, Outcome::SignedContent],
+    );
+    must
+}

@@ -1,0 +1,109 @@
+//! Sweeps: the bytes of one right call with each byte changed in turn, and cut at each place.
+
+use crate::calls::{CommandCall, Expect};
+use crate::check::{Checked, Checker};
+use crate::follow;
+use crate::gen_command::Scene;
+use crate::gen_draft::{self, REGISTRATION, SIGN};
+use crate::gen_response;
+use crate::gen_table::{self, Record};
+use crate::rng::Rng;
+use crate::singles;
+
+/// Longer ones would take the time of too many other calls.
+const MOST_SWEPT: usize = 400;
+
+/// Bytes that are short enough for a sweep.
+fn some_short(rng: &mut Rng, make: impl Fn(&mut Rng) -> Vec<u8>) -> Vec<u8> {
+    loop {
+        let bytes = make(rng);
+        if bytes.len() <= MOST_SWEPT {
+            return bytes;
+        }
+    }
+}
+
+/// The bytes with the one at each place changed.
+fn changed(rng: &mut Rng, bytes: &[u8]) -> Vec<Vec<u8>> {
+    let mut all = Vec::new();
+    for place in 0..bytes.len() {
+        let mut other = bytes.to_vec();
+        other[place] ^= rng.pick(&[0x01, 0x02, 0x10, 0x20, 0x80, 0xFF]);
+        all.push(other);
+    }
+    all
+}
+
+/// The bytes up to each place.
+fn cut(bytes: &[u8]) -> Vec<Vec<u8>> {
+    (0..bytes.len()).map(|end| bytes[..end].to_vec()).collect()
+}
+
+fn both(rng: &mut Rng, bytes: &[u8]) -> Vec<Vec<u8>> {
+    let mut all = changed(rng, bytes);
+    all.extend(cut(bytes));
+    all
+}
+
+/// A call on a table of one or two records with short names.
+fn small_call(rng: &mut Rng) -> CommandCall {
+    let number = rng.between(1, 2);
+    let mut records: Vec<Record> = gen_table::records(rng, number);
+    for record in &mut records {
+        record.name.truncate(3);
+    }
+    let mixed = records[0].mixed;
+    let scene = Scene { records, mixed };
+    let kind = singles::some_kind(rng);
+    loop {
+        let mut call = singles::right_command(rng, kind, &scene);
+        call.lent.verdict = 0;
+        if call.command.len() <= MOST_SWEPT {
+            return call;
+        }
+    }
+}
+
+/// Each byte of a command.
+pub fn command(rng: &mut Rng, checker: &mut Checker) -> Checked<()> {
+    let mut call = small_call(rng);
+    for bytes in both(rng, &call.command) {
+        call.command = bytes;
+        checker.command(&call, Expect::Anything).map(drop)?;
+    }
+    Ok(())
+}
+
+/// Each byte of a stored table.
+pub fn table(rng: &mut Rng, checker: &mut Checker) -> Checked<()> {
+    let mut call = small_call(rng);
+    for bytes in both(rng, &call.table) {
+        call.table = bytes;
+        checker.command(&call, Expect::Anything).map(drop)?;
+    }
+    Ok(())
+}
+
+/// Each byte of a draft.
+pub fn draft(rng: &mut Rng, checker: &mut Checker) -> Checked<()> {
+    let kind = rng.pick(&[REGISTRATION, SIGN]);
+    let draft = some_short(rng, |rng| gen_draft::right(rng, kind));
+    let mut call = follow::completion(rng, kind, draft);
+    for bytes in both(rng, &call.draft) {
+        call.draft = bytes;
+        checker.complete(&call, Expect::Anything)?;
+    }
+    Ok(())
+}
+
+/// Each byte of a response.
+pub fn response(rng: &mut Rng, checker: &mut Checker) -> Checked<()> {
+    let response = some_short(rng, gen_response::right);
+    for bytes in changed(rng, &response) {
+        checker.read(&bytes, Expect::Anything)?;
+    }
+    for bytes in cut(&response) {
+        checker.read(&bytes, Expect::Refusal(5))?;
+    }
+    Ok(())
+}

@@ -1,0 +1,405 @@
+/* The header against the archive: each entry is called through uaf_token.h, with every parameter telling in the result, so that a parameter
+ * that is missing, too many, of another width or in another place shows. Compiled as C11 and as C++17.
+ *
+ * What is expected is put together here, field by field, from document 01. */
+#include <stdio.h>
+#include <stdlib.h>
+#include <string.h>
+
+#include "uaf_token.h"
+
+static int checks = 0;
+
+static void expect(int ok, const char *what)
+{
+    checks++;
+    if (!ok) {
+        printf("header: %s\n", what);
+        exit(1);
+    }
+}
+
+/* ---- bytes put together by hand */
+
+struct bytes {
+    uint8_t at[8192];
+    size_t length;
+};
+
+static void number(struct bytes *b, unsigned value, size_t width)
+{
+    for (size_t i = 0; i < width; i++)
+        b->at[b->length++] = (uint8_t)(value >> (8 * i));
+}
+
+static void stretch(struct bytes *b, const uint8_t *from, size_t length)
+{
+    if (length > 0)
+        memcpy(b->at + b->length, from, length);
+    b->length += length;
+}
+
+static void tlv(struct bytes *b, unsigned tag, const uint8_t *value, size_t length)
+{
+    number(b, tag, 2);
+    number(b, (unsigned)length, 2);
+    stretch(b, value, length);
+}
+
+static void holding(struct bytes *b, unsigned tag, const struct bytes *inner)
+{
+    tlv(b, tag, inner->at, inner->length);
+}
+
+static int same(const struct bytes *b, const uint8_t *at, size_t length)
+{
+    return b->length == length && memcmp(b->at, at, length) == 0;
+}
+
+/* ---- what the caller lends: each different from each */
+
+static uint8_t aaid[9], metadata[15], mixed[32], key_id[32], public_key[65], nonce[17], hash[32], challenge[20], certificate[33], signature[71];
+static const uint8_t zero = 0, name[] = {'A', 'n', 'n'};
+enum { VERSION = 0x0102, SIGNATURE_ALGORITHM = 0x0304, KEY_ALGORITHM = 0x0506 };
+
+static void lend(uint8_t *at, size_t length, int seed)
+{
+    for (size_t i = 0; i < length; i++)
+        at[i] = (uint8_t)(seed + (int)i);
+}
+
+static void lend_all(void)
+{
+    lend(aaid, sizeof aaid, 0x10);
+    lend(metadata, sizeof metadata, 0x20);
+    lend(mixed, sizeof mixed, 0x30);
+    lend(key_id, sizeof key_id, 0x60);
+    lend(public_key, sizeof public_key, 0x80);
+    lend(nonce, sizeof nonce, 0x03);
+    lend(hash, sizeof hash, 0xC0);
+    lend(challenge, sizeof challenge, 0xE0);
+    lend(certificate, sizeof certificate, 0x55);
+    lend(signature, sizeof signature, 0x77);
+}
+
+/* ---- a call of uaf_command */
+
+static uint8_t response[UAF_LEAST_RESPONSE + 1], table_out[UAF_LEAST_TABLE + 1];
+static uint32_t answer;
+static size_t response_length, table_length;
+
+/* The fill of an output, by which bytes that must not change are known again. */
+enum { UNTOUCHED = 0xA5 };
+
+static void fill_outputs(void)
+{
+    memset(response, UNTOUCHED, sizeof response);
+    memset(table_out, UNTOUCHED, sizeof table_out);
+    answer = 77;
+    response_length = 78;
+    table_length = 79;
+}
+
+static int untouched(const uint8_t *at, size_t from, size_t size)
+{
+    for (size_t i = from; i < size; i++)
+        if (at[i] != UNTOUCHED)
+            return 0;
+    return 1;
+}
+
+static int all_untouched(void)
+{
+    return untouched(response, 0, sizeof response) && untouched(table_out, 0, sizeof table_out) && answer == 77 && response_length == 78
+        && table_length == 79;
+}
+
+static uint32_t call(const struct bytes *command, uint8_t verdict, uint8_t display, const struct bytes *table)
+{
+    fill_outputs();
+    return uaf_command(
+        command->at, command->length, aaid, sizeof aaid, VERSION, SIGNATURE_ALGORITHM, KEY_ALGORITHM, metadata, sizeof metadata, verdict,
+        display, mixed, sizeof mixed, key_id, sizeof key_id, public_key, sizeof public_key, nonce, sizeof nonce, hash, sizeof hash, table->at,
+        table->length, response, sizeof response, table_out, sizeof table_out, &answer, &response_length, &table_length);
+}
+
+/* What was written, and nothing beyond it. */
+static int wrote(uint32_t kind, const struct bytes *expected, const struct bytes *left)
+{
+    return answer == kind && same(expected, response, response_length) && untouched(response, response_length, sizeof response)
+        && same(left, table_out, table_length) && untouched(table_out, table_length, sizeof table_out);
+}
+
+static void command_of(struct bytes *command, unsigned tag, const struct bytes *children)
+{
+    command->length = 0;
+    holding(command, tag, children);
+}
+
+static void status_only(struct bytes *expected, unsigned tag, unsigned status)
+{
+    struct bytes inner = {{0}, 0};
+    uint8_t code[2] = {(uint8_t)status, 0};
+    tlv(&inner, 0x2808, code, 2);
+    expected->length = 0;
+    holding(expected, tag, &inner);
+}
+
+static void stored_record(struct bytes *table, unsigned count)
+{
+    struct bytes inner = {{0}, 0};
+    tlv(&inner, 0x2E09, key_id, sizeof key_id);
+    tlv(&inner, 0x2805, mixed, sizeof mixed);
+    tlv(&inner, 0x2806, name, sizeof name);
+    number(&inner, 0x2E0D, 2);
+    number(&inner, 4, 2);
+    number(&inner, count, 4);
+    table->length = 0;
+    holding(table, 0x3802, &inner);
+}
+
+/* ---- the children that commands share */
+
+static void children_of(struct bytes *children, int registers, const char *content)
+{
+    static const uint8_t access_token[] = {0xAA}, full[] = {0x07, 0x3E};
+    children->length = 0;
+    tlv(children, 0x280D, &zero, 1);
+    tlv(children, 0x2E0A, challenge, sizeof challenge);
+    if (registers) {
+        tlv(children, 0x2806, name, sizeof name);
+        tlv(children, 0x2807, full, 2);
+    } else if (content != NULL) {
+        tlv(children, 0x2810, (const uint8_t *)content, strlen(content));
+    }
+    tlv(children, 0x2805, access_token, 1);
+}
+
+static void get_info(void)
+{
+    struct bytes command = {{0}, 0}, none = {{0}, 0}, info = {{0}, 0}, inner = {{0}, 0}, expected = {{0}, 0};
+    static const uint8_t ok[2] = {0, 0}, one = 1, full[2] = {0x07, 0x3E}, surrogate[2] = {0x08, 0x3E};
+    command_of(&command, 0x3401, &none);
+    tlv(&info, 0x280D, &zero, 1);
+    tlv(&info, 0x2E0B, aaid, sizeof aaid);
+    tlv(&info, 0x2809, metadata, sizeof metadata);
+    tlv(&info, 0x280C, (const uint8_t *)"text/plain", 10);
+    tlv(&info, 0x280A, (const uint8_t *)"UAFV1TLV", 8);
+    tlv(&info, 0x2807, full, 2);
+    tlv(&info, 0x2807, surrogate, 2);
+    tlv(&inner, 0x2808, ok, 2);
+    tlv(&inner, 0x280E, &one, 1);
+    holding(&inner, 0x3811, &info);
+    holding(&expected, 0x3601, &inner);
+    expect(call(&command, UAF_VERIFIED, UAF_SHOWN_CONFIRMED, &none) == 0, "GetInfo is refused");
+    expect(expected.length == 94 && wrote(UAF_RESPONSE, &expected, &none), "GetInfo: AAID or metadata");
+
+    /* what GetInfo does not use may be empty, and an empty stretch's pointer may be NULL */
+    fill_outputs();
+    expect(
+        uaf_command(
+            command.at, command.length, aaid, sizeof aaid, VERSION, SIGNATURE_ALGORITHM, KEY_ALGORITHM, metadata, sizeof metadata, 255, 255,
+            NULL, 0, NULL, 0, NULL, 0, NULL, 0, NULL, 0, NULL, 0, response, sizeof response, table_out, sizeof table_out, &answer,
+            &response_length, &table_length) == 0,
+        "GetInfo with NULL for what is empty is refused");
+    expect(wrote(UAF_RESPONSE, &expected, &none), "GetInfo with NULL for what is empty");
+}
+
+static void krd(struct bytes *draft)
+{
+    struct bytes inner = {{0}, 0}, info = {{0}, 0};
+    static const uint8_t counters[8] = {0};
+    number(&info, VERSION, 2);
+    number(&info, 0x01, 1);
+    number(&info, SIGNATURE_ALGORITHM, 2);
+    number(&info, KEY_ALGORITHM, 2);
+    tlv(&inner, 0x2E0B, aaid, sizeof aaid);
+    holding(&inner, 0x2E0E, &info);
+    tlv(&inner, 0x2E0A, challenge, sizeof challenge);
+    tlv(&inner, 0x2E09, key_id, sizeof key_id);
+    tlv(&inner, 0x2E0D, counters, 8);
+    tlv(&inner, 0x2E0C, public_key, sizeof public_key);
+    draft->length = 0;
+    holding(draft, 0x3E03, &inner);
+}
+
+static void registers(void)
+{
+    struct bytes children = {{0}, 0}, command = {{0}, 0}, none = {{0}, 0}, draft = {{0}, 0}, table = {{0}, 0}, expected = {{0}, 0};
+    children_of(&children, 1, NULL);
+    command_of(&command, 0x3402, &children);
+    krd(&draft);
+    stored_record(&table, 0);
+    expect(call(&command, UAF_VERIFIED, UAF_SHOWN_CONFIRMED, &none) == 0, "Register is refused");
+    expect(wrote(UAF_DRAFT, &draft, &table), "Register: profile, challenge, KeyID, public key or mixed token");
+    status_only(&expected, 0x3602, 0x10);
+    expect(call(&command, UAF_LOCKED_OUT, UAF_SHOWN_CONFIRMED, &none) == 0 && wrote(UAF_RESPONSE, &expected, &none), "Register: the verdict");
+    status_only(&expected, 0x3602, 0x01);
+    expect(call(&command, UAF_VERIFIED, UAF_SHOWN_CONFIRMED, &table) == 0 && wrote(UAF_RESPONSE, &expected, &table), "Register: the table");
+}
+
+static void signs(void)
+{
+    struct bytes children = {{0}, 0}, command = {{0}, 0}, table = {{0}, 0}, left = {{0}, 0}, info = {{0}, 0}, inner = {{0}, 0};
+    struct bytes draft = {{0}, 0}, expected = {{0}, 0};
+    children_of(&children, 0, "7.40 to 3");
+    command_of(&command, 0x3403, &children);
+    number(&info, VERSION, 2);
+    number(&info, 0x02, 1);
+    number(&info, SIGNATURE_ALGORITHM, 2);
+    tlv(&inner, 0x2E0B, aaid, sizeof aaid);
+    holding(&inner, 0x2E0E, &info);
+    tlv(&inner, 0x2E0F, nonce, sizeof nonce);
+    tlv(&inner, 0x2E0A, challenge, sizeof challenge);
+    tlv(&inner, 0x2E10, hash, sizeof hash);
+    tlv(&inner, 0x2E09, key_id, sizeof key_id);
+    number(&inner, 0x2E0D, 2);
+    number(&inner, 4, 2);
+    number(&inner, 0x01020305, 4);
+    holding(&draft, 0x3E04, &inner);
+    stored_record(&table, 0x01020304);
+    stored_record(&left, 0x01020305);
+    expect(call(&command, UAF_VERIFIED, UAF_SHOWN_CONFIRMED, &table) == 0, "Sign is refused");
+    expect(wrote(UAF_DRAFT, &draft, &left), "Sign: nonce, hash, KeyID or count");
+    status_only(&expected, 0x3603, 0x04);
+    expect(call(&command, UAF_VERIFIED, UAF_SHOWN_NOT_RENDERED, &table) == 0 && wrote(UAF_RESPONSE, &expected, &table), "Sign: the display");
+}
+
+/* Each refusal of a command, and that it leaves everything as it was. */
+static void refusals(void)
+{
+    struct bytes command = {{0}, 0}, none = {{0}, 0}, broken = {{0}, 0}, unknown = {{0}, 0};
+    command_of(&command, 0x3401, &none);
+    command_of(&unknown, 0x3405, &none);
+    broken.length = 1;
+    for (int shorter = 0; shorter < 2; shorter++) {
+        fill_outputs();
+        expect(
+            uaf_command(
+                command.at, command.length, aaid, sizeof aaid, VERSION, SIGNATURE_ALGORITHM, KEY_ALGORITHM, metadata, sizeof metadata, 0, 0,
+                mixed, sizeof mixed, key_id, sizeof key_id, public_key, sizeof public_key, nonce, sizeof nonce, hash, sizeof hash, NULL, 0,
+                response, shorter ? UAF_LEAST_RESPONSE - 1 : UAF_LEAST_RESPONSE, table_out, shorter ? UAF_LEAST_TABLE : UAF_LEAST_TABLE - 1,
+                &answer, &response_length, &table_length) == UAF_REFUSED_OUTPUT,
+            "a short output is not refused");
+        expect(all_untouched(), "a short output");
+    }
+    expect(call(&command, 0, 0, &broken) == UAF_REFUSED_TABLE && all_untouched(), "a broken table");
+    expect(call(&unknown, 0, 0, &none) == UAF_REFUSED_COMMAND && all_untouched(), "no command");
+    fill_outputs();
+    expect(
+        uaf_command(
+            command.at, command.length, aaid, sizeof aaid - 1, VERSION, SIGNATURE_ALGORITHM, KEY_ALGORITHM, metadata, sizeof metadata, 0, 0,
+            NULL, 0, NULL, 0, NULL, 0, NULL, 0, NULL, 0, NULL, 0, response, sizeof response, table_out, sizeof table_out, &answer,
+            &response_length, &table_length) == UAF_REFUSED_LENT
+            && all_untouched(),
+        "a short AAID");
+}
+
+/* ---- completion and the reader */
+
+static void registration(struct bytes *expected, const struct bytes *draft)
+{
+    struct bytes attested = {{0}, 0}, inner = {{0}, 0}, assertion = {{0}, 0}, whole = {{0}, 0};
+    static const uint8_t ok[2] = {0, 0};
+    tlv(&attested, 0x2E06, signature, sizeof signature);
+    tlv(&attested, 0x2E05, certificate, sizeof certificate);
+    stretch(&inner, draft->at, draft->length);
+    holding(&inner, 0x3E07, &attested);
+    holding(&assertion, 0x3E01, &inner);
+    tlv(&whole, 0x2808, ok, 2);
+    holding(&whole, 0x280F, &assertion);
+    expected->length = 0;
+    holding(expected, 0x3602, &whole);
+}
+
+static void completes(void)
+{
+    struct bytes draft = {{0}, 0}, expected = {{0}, 0};
+    krd(&draft);
+    registration(&expected, &draft);
+    fill_outputs();
+    expect(
+        uaf_complete(
+            UAF_COMPLETE_REGISTRATION, draft.at, draft.length, UAF_BASIC_FULL, signature, sizeof signature, certificate, sizeof certificate,
+            response, sizeof response, &response_length) == 0,
+        "a completion is refused");
+    expect(same(&expected, response, response_length) && untouched(response, response_length, sizeof response), "a completion");
+    fill_outputs();
+    expect(
+        uaf_complete(
+            UAF_COMPLETE_SIGN, draft.at, draft.length, UAF_BASIC_FULL, signature, sizeof signature, certificate, sizeof certificate, response,
+            sizeof response, &response_length) == UAF_REFUSED_BYTES
+            && all_untouched(),
+        "a completion of another kind");
+    expect(
+        uaf_complete(
+            UAF_COMPLETE_REGISTRATION, draft.at, draft.length, UAF_BASIC_SURROGATE, signature, sizeof signature, certificate,
+            sizeof certificate, response, sizeof response, &response_length) == UAF_REFUSED_LENT
+            && all_untouched(),
+        "a completion with a certificate too many");
+    expect(
+        uaf_complete(
+            UAF_COMPLETE_REGISTRATION, draft.at, draft.length, UAF_BASIC_SURROGATE, signature, sizeof signature, NULL, 0, response,
+            UAF_LEAST_RESPONSE - 1, &response_length) == UAF_REFUSED_OUTPUT
+            && all_untouched(),
+        "a completion into a short output");
+    expect(
+        uaf_complete(
+            UAF_COMPLETE_REGISTRATION, draft.at, draft.length, UAF_BASIC_SURROGATE, signature, sizeof signature, NULL, 0, response,
+            sizeof response, &response_length) == 0,
+        "a completion without certificate");
+}
+
+static void reads(void)
+{
+    struct bytes draft = {{0}, 0}, whole = {{0}, 0};
+    size_t place = 1, length = 2, tag = 3, status = 4, count = 5;
+    size_t tags[UAF_MOST_FIELDS], places[UAF_MOST_FIELDS], lengths[UAF_MOST_FIELDS];
+    /* status, AAID, info, challenge, KeyID, counters, public key, signature, certificate */
+    static const size_t expected_tags[] = {0x2808, 0x2E0B, 0x2E0E, 0x2E0A, 0x2E09, 0x2E0D, 0x2E0C, 0x2E06, 0x2E05};
+    const size_t expected_lengths[] = {
+        2, sizeof aaid, 7, sizeof challenge, sizeof key_id, 8, sizeof public_key, sizeof signature, sizeof certificate};
+    krd(&draft);
+    registration(&whole, &draft);
+    expect(uaf_signed_part(whole.at, whole.length, &place, &length) == 0, "a response is not read");
+    expect(place == 18 && length == draft.length && memcmp(whole.at + place, draft.at, length) == 0, "the signed part");
+    expect(uaf_read_fields(whole.at, whole.length, &tag, &status, &count, tags, places, lengths) == 0, "the fields are not read");
+    expect(tag == 0x3602 && status == 0 && count == 9, "tag, status or number of fields");
+    for (size_t i = 0; i < UAF_MOST_FIELDS; i++) {
+        if (i < count)
+            expect(
+                tags[i] == expected_tags[i] && lengths[i] == expected_lengths[i]
+                    && whole.at[places[i] - 4] + 256u * whole.at[places[i] - 3] == tags[i]
+                    && whole.at[places[i] - 2] + 256u * whole.at[places[i] - 1] == lengths[i],
+                "a field");
+        else
+            expect(tags[i] == 0 && places[i] == 0 && lengths[i] == 0, "a row past the fields");
+    }
+
+    /* bytes that are no response */
+    place = 1, length = 2, tag = 3, status = 4, count = 5, tags[0] = 6, places[0] = 7, lengths[0] = 8;
+    expect(uaf_signed_part(draft.at, draft.length, &place, &length) == UAF_REFUSED_BYTES && place == 1 && length == 2, "a draft alone");
+    expect(
+        uaf_read_fields(NULL, 0, &tag, &status, &count, tags, places, lengths) == UAF_REFUSED_BYTES && tag == 3 && status == 4 && count == 5
+            && tags[0] == 6 && places[0] == 7 && lengths[0] == 8,
+        "no bytes at all");
+}
+
+int main(void)
+{
+    lend_all();
+    get_info();
+    registers();
+    signs();
+    refusals();
+    completes();
+    reads();
+    printf("header: %d checks, %s\n", checks,
+#ifdef __cplusplus
+           "as C++"
+#else
+           "as C"
+#endif
+    );
+    return 0;
+}

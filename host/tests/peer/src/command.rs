@@ -1,0 +1,217 @@
+//! The five commands on a stored table.
+
+use crate::draft::{write_krd, write_signed_data};
+use crate::lent::{Call, Registering, Signing};
+use crate::numbers::{
+    tag, Attestation, Bytes32, Kind, Status, API, CONTENT_TYPE, INDEX, LEAST_RESPONSE, LEAST_TABLE,
+    MOST_OWN, MOST_RECORDS, SCHEME,
+};
+use crate::params::Params;
+use crate::table::{Record, Table};
+use crate::tlv::Writer;
+use crate::{Answer, Lent, Profile, Refusal, Served};
+
+/// Runs a command on a stored table. `response` gets the response or the draft, `table_out` the
+/// stored form of the table left.
+///
+/// # Errors
+///
+/// The first that applies of [`Refusal::Output`], [`Refusal::Table`], [`Refusal::Command`] and
+/// [`Refusal::Lent`].
+pub fn command(
+    command: &[u8],
+    lent: &Lent,
+    table: &[u8],
+    response: &mut [u8],
+    table_out: &mut [u8],
+) -> Result<Served, Refusal> {
+    if response.len() < LEAST_RESPONSE || table_out.len() < LEAST_TABLE {
+        return Err(Refusal::Output);
+    }
+    let table = Table::read(table).ok_or(Refusal::Table)?;
+    let kind = Kind::of_command(command).ok_or(Refusal::Command)?;
+    let call = Call::of(kind, lent).ok_or(Refusal::Lent)?;
+
+    let mut outputs = Outputs {
+        answer: Writer::new(response),
+        table: Writer::new(table_out),
+    };
+    let written = serve(&call, command, &table, &mut outputs).unwrap_or_else(|status| {
+        // "a status other than OK leaves the table unchanged"
+        write_response(kind, status, |_| {}, &mut outputs.answer);
+        table.write(&mut outputs.table);
+        Written::Response
+    });
+    let length = outputs.answer.length();
+    Ok(Served {
+        answer: match written {
+            Written::Response => Answer::Response(length),
+            Written::Draft => Answer::Draft(length),
+        },
+        table_length: outputs.table.length(),
+    })
+}
+
+struct Outputs<'a> {
+    answer: Writer<'a>,
+    table: Writer<'a>,
+}
+
+enum Written {
+    Response,
+    Draft,
+}
+
+/// Writes both outputs, or gives the status that is to be answered alone and has written nothing.
+fn serve(call: &Call, command: &[u8], table: &Table, out: &mut Outputs) -> Result<Written, Status> {
+    let params = Params::read(call.kind(), command).ok_or(Status::ParamsInvalid)?;
+    match call {
+        Call::GetInfo(profile) => Ok(get_info(profile, table, out)),
+        Call::Register(lent) => register(lent, &params, table, out),
+        Call::Sign(lent) => sign(lent, &params, table, out),
+        Call::Deregister(mixed) => deregister(mixed, &params, table, out),
+        Call::OpenSettings => Err(Status::CmdNotSupported),
+    }
+}
+
+/// A response: its status, then what `body` writes.
+pub(crate) fn write_response(
+    kind: Kind,
+    status: Status,
+    body: impl FnOnce(&mut Writer),
+    out: &mut Writer,
+) {
+    out.wrap(kind.response_tag(), |out| {
+        out.tlv(tag::STATUS_CODE, &status.bytes());
+        body(out);
+    });
+}
+
+fn get_info(profile: &Profile, table: &Table, out: &mut Outputs) -> Written {
+    let info = |out: &mut Writer| {
+        out.tlv(tag::API_VERSION, &API);
+        out.wrap(tag::AUTHENTICATOR_INFO, |out| {
+            out.tlv(tag::AUTHENTICATOR_INDEX, &INDEX);
+            out.tlv(tag::AAID, profile.aaid);
+            out.tlv(tag::METADATA, profile.metadata);
+            out.tlv(tag::TC_DISPLAY_CONTENT_TYPE, CONTENT_TYPE);
+            out.tlv(tag::ASSERTION_SCHEME, SCHEME);
+            out.tlv(tag::ATTESTATION_TYPE, &tag::BASIC_FULL.to_le_bytes());
+            out.tlv(tag::ATTESTATION_TYPE, &tag::BASIC_SURROGATE.to_le_bytes());
+        });
+    };
+    write_response(Kind::GetInfo, Status::Ok, info, &mut out.answer);
+    table.write(&mut out.table);
+    Written::Response
+}
+
+fn register(
+    lent: &Registering,
+    params: &Params,
+    table: &Table,
+    out: &mut Outputs,
+) -> Result<Written, Status> {
+    lent.verdict?;
+    let attestation = match *params.value(tag::ATTESTATION_TYPE) {
+        [low, high] => Attestation::of(u16::from_le_bytes([low, high]).into()),
+        _ => None,
+    };
+    if attestation.is_none() {
+        return Err(Status::AttestationNotSupported);
+    }
+    if table.has_key_id(lent.key_id) {
+        return Err(Status::ErrUnknown);
+    }
+    // "at 8 own records or 32 in all"
+    if table.own(lent.mixed).count() >= MOST_OWN || table.count() >= MOST_RECORDS {
+        return Err(Status::InsufficientResources);
+    }
+    let challenge = params.value(tag::FINAL_CHALLENGE_HASH);
+    let username = params.value(tag::USERNAME);
+    write_krd(lent, challenge, &mut out.answer);
+    table.write_with(lent.key_id, lent.mixed, username, &mut out.table);
+    Ok(Written::Draft)
+}
+
+fn sign(
+    lent: &Signing,
+    params: &Params,
+    table: &Table,
+    out: &mut Outputs,
+) -> Result<Written, Status> {
+    lent.verdict?;
+    // "records with the lent mixed token and, if key handles are given, a KeyID among them"
+    let handles = params.handles();
+    let chosen = table
+        .own(lent.mixed)
+        .filter(|record| handles.count() == 0 || handles.contains(record.key_id));
+    let mut first = chosen.clone();
+    match (first.next(), first.next()) {
+        (None, _) => Err(Status::AccessDenied),
+        (Some(record), None) => sign_with(record, lent, params, table, out),
+        (Some(_), Some(_)) => Ok(offer(chosen, table, out)),
+    }
+}
+
+/// A tie: neither signs until one is chosen, and no counter moves.
+fn offer<'r, 'a: 'r>(
+    chosen: impl Iterator<Item = &'r Record<'a>>,
+    table: &Table,
+    out: &mut Outputs,
+) -> Written {
+    let pairs = |out: &mut Writer| {
+        for record in chosen {
+            out.wrap(tag::USERNAME_AND_KEYHANDLE, |out| {
+                out.tlv(tag::USERNAME, record.username);
+                out.tlv(tag::KEYHANDLE, record.key_id);
+            });
+        }
+    };
+    write_response(Kind::Sign, Status::Ok, pairs, &mut out.answer);
+    table.write(&mut out.table);
+    Written::Response
+}
+
+/// A clear winner: display before counter. Empty content is none.
+fn sign_with(
+    record: &Record,
+    lent: &Signing,
+    params: &Params,
+    table: &Table,
+    out: &mut Outputs,
+) -> Result<Written, Status> {
+    let with_content = !params.value(tag::TRANSACTION_CONTENT).is_empty();
+    if with_content {
+        lent.display?;
+    }
+    let counter = record.counter.checked_add(1).ok_or(Status::ErrUnknown)?;
+    let challenge = params.value(tag::FINAL_CHALLENGE_HASH);
+    write_signed_data(
+        lent,
+        challenge,
+        with_content,
+        record.key_id,
+        counter,
+        &mut out.answer,
+    );
+    table.write_counted(record, counter, &mut out.table);
+    Ok(Written::Draft)
+}
+
+/// A stranger's KeyID and an unknown one are answered alike.
+fn deregister(
+    mixed: &Bytes32,
+    params: &Params,
+    table: &Table,
+    out: &mut Outputs,
+) -> Result<Written, Status> {
+    let key_id = params.value(tag::KEYID);
+    let all = key_id.is_empty();
+    let gone = |record: &Record| record.mixed == mixed && (all || record.key_id == key_id);
+    if !all && !table.records().any(gone) {
+        return Err(Status::AccessDenied);
+    }
+    write_response(Kind::Deregister, Status::Ok, |_| {}, &mut out.answer);
+    table.write_without(gone, &mut out.table);
+    Ok(Written::Response)
+}

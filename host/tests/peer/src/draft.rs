@@ -1,0 +1,99 @@
+//! The two structures that are signed, KRD and SIGNED_DATA: written as drafts, and read for
+//! Complete and the reader.
+
+use crate::lent::{Registering, Signing};
+use crate::numbers::{length, tag, Bytes32, CONFIRMED, VERIFIED};
+use crate::tlv::{Length, Row, Run, Sink, Writer};
+
+const KRD: [Row; 6] = [
+    Row(tag::AAID, length::AAID),
+    Row(tag::ASSERTION_INFO, Length::Exactly(7)),
+    Row(tag::FINAL_CHALLENGE_HASH, length::CHALLENGE),
+    Row(tag::KEYID, length::KEY_ID),
+    Row(tag::COUNTERS, Length::Exactly(8)),
+    Row(tag::PUB_KEY, length::PUBLIC_KEY),
+];
+
+const SIGNED_DATA: [Row; 7] = [
+    Row(tag::AAID, length::AAID),
+    Row(tag::ASSERTION_INFO, Length::Exactly(5)),
+    Row(tag::NONCE, length::NONCE),
+    Row(tag::FINAL_CHALLENGE_HASH, length::CHALLENGE),
+    Row(tag::TRANSACTION_CONTENT_HASH, Length::EmptyOr(32)),
+    Row(tag::KEYID, length::KEY_ID),
+    Row(tag::COUNTERS, Length::Exactly(4)),
+];
+
+/// "SignCounter 0, RegCounter 0; 4 bytes each".
+const NEW_COUNTERS: [u8; 8] = [0; 8];
+
+pub(crate) fn write_krd(lent: &Registering, challenge: &[u8], out: &mut Writer) {
+    out.wrap(tag::KRD, |out| {
+        out.tlv(tag::AAID, lent.profile.aaid);
+        out.wrap(tag::ASSERTION_INFO, |out| {
+            out.u16(lent.profile.version);
+            out.put(&[VERIFIED]);
+            out.u16(lent.profile.signature_algorithm);
+            out.u16(lent.profile.key_algorithm);
+        });
+        out.tlv(tag::FINAL_CHALLENGE_HASH, challenge);
+        out.tlv(tag::KEYID, lent.key_id);
+        out.tlv(tag::COUNTERS, &NEW_COUNTERS);
+        out.tlv(tag::PUB_KEY, lent.public_key);
+    });
+}
+
+/// "Mode is 0x02 with content, else 0x01 and a hash of length 0."
+pub(crate) fn write_signed_data(
+    lent: &Signing,
+    challenge: &[u8],
+    with_content: bool,
+    key_id: &Bytes32,
+    counter: u32,
+    out: &mut Writer,
+) {
+    let (mode, hash) = if with_content {
+        (CONFIRMED, lent.hash.as_slice())
+    } else {
+        (VERIFIED, [].as_slice())
+    };
+    out.wrap(tag::SIGNED_DATA, |out| {
+        out.tlv(tag::AAID, lent.profile.aaid);
+        out.wrap(tag::ASSERTION_INFO, |out| {
+            out.u16(lent.profile.version);
+            out.put(&[mode]);
+            out.u16(lent.profile.signature_algorithm);
+        });
+        out.tlv(tag::NONCE, lent.nonce);
+        out.tlv(tag::FINAL_CHALLENGE_HASH, challenge);
+        out.tlv(tag::TRANSACTION_CONTENT_HASH, hash);
+        out.tlv(tag::KEYID, key_id);
+        out.tlv(tag::COUNTERS, &counter.to_le_bytes());
+    });
+}
+
+/// Whether a Register can write a KRD that holds this run.
+pub(crate) fn is_krd(run: Run, sink: &mut impl Sink) -> bool {
+    match run.leaves(&KRD, sink) {
+        Some([_, info, _, _, counters, _]) => {
+            mode(info) == Some(VERIFIED) && counters == NEW_COUNTERS
+        }
+        None => false,
+    }
+}
+
+/// Whether a Sign can write a SIGNED_DATA that holds this run. The count has risen, so it isn't 0.
+pub(crate) fn is_signed_data(run: Run, sink: &mut impl Sink) -> bool {
+    match run.leaves(&SIGNED_DATA, sink) {
+        Some([_, info, _, _, hash, _, counter]) => {
+            let expected = if hash.is_empty() { VERIFIED } else { CONFIRMED };
+            mode(info) == Some(expected) && counter != [0; 4]
+        }
+        None => false,
+    }
+}
+
+/// The mode stands after the version of 2 bytes.
+fn mode(info: &[u8]) -> Option<u8> {
+    info.get(2).copied()
+}

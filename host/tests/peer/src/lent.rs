@@ -1,0 +1,103 @@
+//! The lent results that each command uses, and refusal 4: "a lent result that this command uses
+//! has a wrong length or number". What a command doesn't use is never looked at.
+
+use crate::numbers::{length, Bytes32, Kind, Status};
+use crate::{Lent, Profile};
+
+/// What the fingerprint or the display said: go on, or the status to answer with.
+pub(crate) type Said = Result<(), Status>;
+
+/// A command with the lent results it uses.
+pub(crate) enum Call<'a> {
+    GetInfo(Profile<'a>),
+    Register(Registering<'a>),
+    Sign(Signing<'a>),
+    Deregister(&'a Bytes32),
+    OpenSettings,
+}
+
+/// "Register profile, verdict, mixed token, KeyID, public key".
+pub(crate) struct Registering<'a> {
+    pub profile: Profile<'a>,
+    pub verdict: Said,
+    pub mixed: &'a Bytes32,
+    pub key_id: &'a Bytes32,
+    pub public_key: &'a [u8],
+}
+
+/// "Sign profile, verdict, display result, mixed token, nonce, transaction hash".
+pub(crate) struct Signing<'a> {
+    pub profile: Profile<'a>,
+    pub verdict: Said,
+    pub display: Said,
+    pub mixed: &'a Bytes32,
+    pub nonce: &'a [u8],
+    pub hash: &'a Bytes32,
+}
+
+impl<'a> Call<'a> {
+    /// Nothing, if a lent result that the command uses is wrong.
+    pub(crate) fn of(kind: Kind, lent: &Lent<'a>) -> Option<Self> {
+        Some(match kind {
+            Kind::GetInfo => Call::GetInfo(profile(lent)?),
+            Kind::Register => Call::Register(Registering {
+                profile: profile(lent)?,
+                verdict: verdict(lent.verdict)?,
+                mixed: lent.mixed.try_into().ok()?,
+                key_id: lent.key_id.try_into().ok()?,
+                public_key: Some(lent.public_key)
+                    .filter(|key| length::PUBLIC_KEY.allows(key.len()))?,
+            }),
+            Kind::Sign => Call::Sign(Signing {
+                profile: profile(lent)?,
+                verdict: verdict(lent.verdict)?,
+                display: display(lent.display)?,
+                mixed: lent.mixed.try_into().ok()?,
+                nonce: Some(lent.nonce).filter(|nonce| length::NONCE.allows(nonce.len()))?,
+                hash: lent.hash.try_into().ok()?,
+            }),
+            Kind::Deregister => Call::Deregister(lent.mixed.try_into().ok()?),
+            Kind::OpenSettings => Call::OpenSettings,
+        })
+    }
+
+    pub(crate) fn kind(&self) -> Kind {
+        match self {
+            Call::GetInfo(_) => Kind::GetInfo,
+            Call::Register(_) => Kind::Register,
+            Call::Sign(_) => Kind::Sign,
+            Call::Deregister(_) => Kind::Deregister,
+            Call::OpenSettings => Kind::OpenSettings,
+        }
+    }
+}
+
+fn profile<'a>(lent: &Lent<'a>) -> Option<Profile<'a>> {
+    Some(lent.profile).filter(|profile| {
+        length::AAID.allows(profile.aaid.len()) && length::METADATA.allows(profile.metadata.len())
+    })
+}
+
+/// "0 verified, 1 denied, 2 not enrolled, 3 cancelled, 4 no reply, 5 locked out".
+fn verdict(number: u8) -> Option<Said> {
+    Some(match number {
+        0 => Ok(()),
+        1 => Err(Status::AccessDenied),
+        2 => Err(Status::UserNotEnrolled),
+        3 => Err(Status::UserCancelled),
+        4 => Err(Status::UserNotResponsive),
+        5 => Err(Status::UserLockout),
+        _ => return None,
+    })
+}
+
+/// "0 confirmed, 1 cancelled, 2 cannot render, 3 no reply".
+fn display(number: u8) -> Option<Said> {
+    Some(match number {
+        0 => Ok(()),
+        1 => Err(Status::UserCancelled),
+        2 => Err(Status::CannotRender),
+        3 => Err(Status::UserNotResponsive),
+        _ => return None,
+    })
+}

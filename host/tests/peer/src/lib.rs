@@ -1,0 +1,96 @@
+//! The tote window token of document 01: the command machine of a FIDO UAF first-factor roaming
+//! authenticator.
+//!
+//! Written from the paper alone, to be compared call by call with the proved token. Quotations are
+//! document 01's. There is no heap and no state: a call is lent bytes and numbers, and gives a
+//! refusal or writes into the caller's outputs. "After these only statuses follow": nothing is
+//! written before the last refusal has been ruled out.
+
+#![no_std]
+#![forbid(unsafe_code)]
+#![warn(missing_docs)]
+
+mod command;
+mod complete;
+mod draft;
+mod lent;
+mod numbers;
+mod params;
+mod reader;
+mod table;
+mod tlv;
+
+pub use command::command;
+pub use complete::complete;
+pub use reader::{read_fields, signed_part, Fields, MOST_FIELDS};
+pub use tlv::Field;
+
+/// "The profile is lent": who the token is.
+#[derive(Clone, Copy, Debug)]
+pub struct Profile<'a> {
+    /// AAID of 9 bytes.
+    pub aaid: &'a [u8],
+    /// The authenticator's version.
+    pub version: u16,
+    /// The signature algorithm.
+    pub signature_algorithm: u16,
+    /// The public-key algorithm.
+    pub key_algorithm: u16,
+    /// Metadata of 15 bytes.
+    pub metadata: &'a [u8],
+}
+
+/// "Hashing, keys, signatures, the fingerprint and the display lie outside and lend their results."
+#[derive(Clone, Copy, Debug)]
+pub struct Lent<'a> {
+    /// Who the token is.
+    pub profile: Profile<'a>,
+    /// The fingerprint's verdict, 0 to 5.
+    pub verdict: u8,
+    /// The display's result, 0 to 3.
+    pub display: u8,
+    /// The mixed token of 32 bytes: the hash of access token followed by AppID.
+    pub mixed: &'a [u8],
+    /// A new KeyID of 32 bytes.
+    pub key_id: &'a [u8],
+    /// Its public key, 1 to 512 bytes.
+    pub public_key: &'a [u8],
+    /// A nonce of 8 to 32 bytes.
+    pub nonce: &'a [u8],
+    /// The hash of the transaction content, 32 bytes.
+    pub hash: &'a [u8],
+}
+
+/// Why a call was refused. A refused call has changed no output.
+#[derive(Clone, Copy, PartialEq, Eq, Debug)]
+#[repr(u32)]
+pub enum Refusal {
+    /// An output is too short.
+    Output = 1,
+    /// The stored table breaks a rule.
+    Table = 2,
+    /// Fewer than 4 bytes, or none of the five commands.
+    Command = 3,
+    /// A lent result that is used has a wrong length or number.
+    Lent = 4,
+    /// No draft of this kind, or no response.
+    Bytes = 5,
+}
+
+/// What a command wrote into the response output, with its length.
+#[derive(Clone, Copy, PartialEq, Eq, Debug)]
+pub enum Answer {
+    /// A response.
+    Response(usize),
+    /// A draft alone, to be signed and completed.
+    Draft(usize),
+}
+
+/// What a command wrote.
+#[derive(Clone, Copy, PartialEq, Eq, Debug)]
+pub struct Served {
+    /// The response or draft.
+    pub answer: Answer,
+    /// The length of the stored form of the table left.
+    pub table_length: usize,
+}

@@ -1,0 +1,71 @@
+//! The four entries as `host/include/uaf_token.h` declares them. Nothing checks these declarations
+//! against the archive but calling them.
+
+use uaf_peer::MOST_FIELDS;
+
+extern "C" {
+    pub fn uaf_command(
+        command: *const u8,
+        command_size: usize,
+        aaid: *const u8,
+        aaid_size: usize,
+        version: u16,
+        signature_algorithm: u16,
+        key_algorithm: u16,
+        metadata: *const u8,
+        metadata_size: usize,
+        verdict: u8,
+        display: u8,
+        mixed: *const u8,
+        mixed_size: usize,
+        key_id: *const u8,
+        key_id_size: usize,
+        public_key: *const u8,
+        public_key_size: usize,
+        nonce: *const u8,
+        nonce_size: usize,
+        hash: *const u8,
+        hash_size: usize,
+        table: *const u8,
+        table_size: usize,
+        response: *mut u8,
+        response_size: usize,
+        table_out: *mut u8,
+        table_out_size: usize,
+        answer: *mut u32,
+        response_length: *mut usize,
+        table_length: *mut usize,
+    ) -> u32;
+
+    pub fn uaf_complete(
+        kind: u32,
+        draft: *const u8,
+        draft_size: usize,
+        attestation: u32,
+        signature: *const u8,
+        signature_size: usize,
+        certificate: *const u8,
+        certificate_size: usize,
+        response: *mut u8,
+        response_size: usize,
+        response_length: *mut usize,
+    ) -> u32;
+
+    pub fn uaf_signed_part(
+        response: *const u8,
+        response_size: usize,
+        place: *mut usize,
+        length: *mut usize,
+    ) -> u32;
+
+    pub fn uaf_read_fields(
+        response: *const u8,
+        response_size: usize,
+        tag: *mut usize,
+        status: *mut usize,
+        count: *mut usize,
+        tags: *mut [usize; MOST_FIELDS],
+        places: *mut [usize; MOST_FIELDS],
+        lengths: *mut [usize; MOST_FIELDS],
+    ) -> u32;
+}
