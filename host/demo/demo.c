@@ -13,9 +13,7 @@
 #include "show.h"
 #include "tlv.h"
 
-enum { OK = 0x00, ACCESS_DENIED = 0x02, USER_CANCELLED = 0x05, INSUFFICIENT_RESOURCES = 0x0F };
 
-enum { MOST_OWN = 8, MOST_IN_ALL = 32 };
 
 static void say_what_this_is(void)
 {
@@ -35,7 +33,7 @@ static void find_former(struct afternoon *a, const char *path, size_t swept)
         if (count_records(a, &a->firms[i]) == 0)
             continue;
         show("  > %s: Deregister with an empty KeyID, which closes the former afternoon\n", a->firms[i].name);
-        leave(a, i, nothing(), OK, &response);
+        leave(a, i, nothing(), UAF_STATUS_OK, &response);
         show_response(&response);
     }
 }
@@ -53,7 +51,7 @@ static void what_it_is(struct afternoon *a)
 static void sign_as(struct afternoon *a, struct signing what, const char *username)
 {
     struct response response;
-    const struct account *account = sign(a, what, OK, &response);
+    const struct account *account = sign(a, what, UAF_STATUS_OK, &response);
     if (account == NULL || strcmp(account->username, username) != 0)
         fail_because(username, "not the one it is booked to");
     show_response(&response);
@@ -72,7 +70,7 @@ static void register_seller(struct afternoon *a, size_t firm, const char *userna
     struct response response;
     bool full = attestation == UAF_BASIC_FULL;
     show("  > %s: Register %s, %s attestation\n", a->firms[firm].name, username, full ? "full" : "surrogate");
-    enrol(a, firm, username, attestation, OK, &response);
+    enrol(a, firm, username, attestation, UAF_STATUS_OK, &response);
     show_response(&response);
     show("  = the signature verifies with %s\n", full ? "the certificate's key" : "the new key itself");
 }
@@ -102,7 +100,7 @@ static void dead_heat(struct afternoon *a)
     struct response list;
     show("\n3. A dead heat: both of Northgate's keys fit, so neither signs until one is chosen\n");
     show("  > Northgate: Sign, no key handle\n");
-    if (sign(a, (struct signing){NORTHGATE, nothing(), "", UAF_SHOWN_CONFIRMED}, OK, &list) != NULL)
+    if (sign(a, (struct signing){NORTHGATE, nothing(), "", UAF_SHOWN_CONFIRMED}, UAF_STATUS_OK, &list) != NULL)
         fail_because("Sign", "signed by one of two");
     show_response(&list);
     require_same_table(a, &before);
@@ -133,7 +131,7 @@ static void dividends(struct afternoon *a)
     const struct table before = a->terminal.table;
     show("  > Northgate: Sign with Ann's key handle, and another dividend\n");
     show("    display [ %s ]  Ann: no\n", wrong);
-    sign(a, (struct signing){NORTHGATE, WHOLE(ann.bytes), wrong, UAF_SHOWN_CANCELLED}, USER_CANCELLED, &response);
+    sign(a, (struct signing){NORTHGATE, WHOLE(ann.bytes), wrong, UAF_SHOWN_CANCELLED}, UAF_STATUS_USER_CANCELLED, &response);
     show_response(&response);
     require_same_table(a, &before);
     show("  = no signature, no counter moved\n");
@@ -146,14 +144,14 @@ static void strangers(struct afternoon *a)
     const struct table before = a->terminal.table;
     show("\n6. Hollin tries Ann's key: it cannot even learn that the key exists\n");
     show("  > Hollin: Sign with Ann's key handle, then with one that nobody has\n");
-    sign(a, (struct signing){HOLLIN, WHOLE(ann.bytes), "", UAF_SHOWN_CONFIRMED}, ACCESS_DENIED, &with_hers);
-    sign(a, (struct signing){HOLLIN, WHOLE(nobody.bytes), "", UAF_SHOWN_CONFIRMED}, ACCESS_DENIED, &with_none);
+    sign(a, (struct signing){HOLLIN, WHOLE(ann.bytes), "", UAF_SHOWN_CONFIRMED}, UAF_STATUS_ACCESS_DENIED, &with_hers);
+    sign(a, (struct signing){HOLLIN, WHOLE(nobody.bytes), "", UAF_SHOWN_CONFIRMED}, UAF_STATUS_ACCESS_DENIED, &with_none);
     show_response(&with_hers);
     if (!same(FILLED(with_hers), FILLED(with_none)))
         fail_because("Sign", "tells a stranger's key from none");
     show("  > Hollin: Deregister Ann's KeyID, then one that nobody has\n");
-    leave(a, HOLLIN, WHOLE(ann.bytes), ACCESS_DENIED, &with_hers);
-    leave(a, HOLLIN, WHOLE(nobody.bytes), ACCESS_DENIED, &with_none);
+    leave(a, HOLLIN, WHOLE(ann.bytes), UAF_STATUS_ACCESS_DENIED, &with_hers);
+    leave(a, HOLLIN, WHOLE(nobody.bytes), UAF_STATUS_ACCESS_DENIED, &with_none);
     show_response(&with_hers);
     if (!same(FILLED(with_hers), FILLED(with_none)))
         fail_because("Deregister", "tells a stranger's key from none");
@@ -165,10 +163,10 @@ static void strangers(struct afternoon *a)
 static void fill(struct afternoon *a, size_t firm)
 {
     struct response response;
-    for (unsigned i = 1; count_records(a, &a->firms[firm]) < MOST_OWN && count_records(a, NULL) < MOST_IN_ALL; i++) {
+    for (unsigned i = 1; count_records(a, &a->firms[firm]) < UAF_MOST_OWN && count_records(a, NULL) < UAF_MOST_RECORDS; i++) {
         char username[16];
         snprintf(username, sizeof username, "Seller-%u", i);
-        enrol(a, firm, username, UAF_BASIC_SURROGATE, OK, &response);
+        enrol(a, firm, username, UAF_BASIC_SURROGATE, UAF_STATUS_OK, &response);
     }
 }
 
@@ -179,17 +177,17 @@ static void full_table(struct afternoon *a)
     show("\n7. A full table: no holder gets more than 8 places, and there are 32 in all\n");
     show("  > Ashby: Register until it has 8 records, each OK; then a ninth\n");
     fill(a, FIRST_OTHER);
-    enrol(a, FIRST_OTHER, "Ninth", UAF_BASIC_SURROGATE, INSUFFICIENT_RESOURCES, &response);
+    enrol(a, FIRST_OTHER, "Ninth", UAF_BASIC_SURROGATE, UAF_STATUS_INSUFFICIENT_RESOURCES, &response);
     show_response(&response);
     show("  > three more firms: Register until the table has 32 records, each OK; then Hollin: Register Dee\n");
     for (size_t i = FIRST_OTHER + 1; i < FIRMS; i++)
         fill(a, i);
     archive_file(&a->archive, "table-full.bin", FILLED(a->terminal.table));
-    enrol(a, HOLLIN, "Dee", UAF_BASIC_SURROGATE, INSUFFICIENT_RESOURCES, &response);
+    enrol(a, HOLLIN, "Dee", UAF_BASIC_SURROGATE, UAF_STATUS_INSUFFICIENT_RESOURCES, &response);
     show_response(&response);
     show("  > the four firms go home: Deregister with an empty KeyID from each\n");
     for (size_t i = FIRST_OTHER; i < FIRMS; i++)
-        leave(a, i, nothing(), OK, &response);
+        leave(a, i, nothing(), UAF_STATUS_OK, &response);
     show_response(&response);
     require_same_table(a, &before);
     show("  = the table is byte for byte what it was before they came, so there is a place for Dee\n");
@@ -206,14 +204,14 @@ static void go_home(struct afternoon *a)
     struct hash bo = key_id_of(a, NORTHGATE, "Bo");
     show("\n10. Bo goes home: one record is removed, and Northgate's next sign-in is no tie\n");
     show("  > Northgate: Deregister Bo's KeyID\n");
-    leave(a, NORTHGATE, WHOLE(bo.bytes), OK, &response);
+    leave(a, NORTHGATE, WHOLE(bo.bytes), UAF_STATUS_OK, &response);
     show_response(&response);
     show("  > Northgate: Sign, no key handle\n");
     sign_as(a, (struct signing){NORTHGATE, nothing(), "", UAF_SHOWN_CONFIRMED}, "Ann");
 
     show("\n11. Hollin goes home: an empty KeyID removes all that is Hollin's, and nothing else\n");
     show("  > Hollin: Deregister with an empty KeyID\n");
-    leave(a, HOLLIN, nothing(), OK, &response);
+    leave(a, HOLLIN, nothing(), UAF_STATUS_OK, &response);
     show_response(&response);
     show("  = what is left on disk\n");
     show_table(a);

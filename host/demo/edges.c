@@ -59,7 +59,7 @@ void last_count(const struct afternoon *a)
     sign_on(a, WHOLE(ann.bytes), &last.left, &beyond);
     memcpy(response.bytes, beyond.bytes, beyond.size);
     response.size = beyond.size;
-    if (beyond.kind != UAF_RESPONSE || token_read(&response) != 0 || response.status != 0x01)
+    if (beyond.kind != UAF_RESPONSE || token_read(&response) != 0 || response.status != UAF_STATUS_ERR_UNKNOWN)
         fail_because("Sign", "a count beyond the last");
     if (!same(FILLED(beyond.left), FILLED(last.left)))
         fail_because("table", "changed");

@@ -61,18 +61,18 @@ static const char *name_in(const struct name *names, size_t count, size_t n)
 const char *status_name(size_t status)
 {
     static const struct name names[] = {
-        {0x00, "OK"},
-        {0x01, "ERR_UNKNOWN"},
-        {0x02, "ACCESS_DENIED"},
-        {0x03, "USER_NOT_ENROLLED"},
-        {0x04, "CANNOT_RENDER_TRANSACTION_CONTENT"},
-        {0x05, "USER_CANCELLED"},
-        {0x06, "CMD_NOT_SUPPORTED"},
-        {0x07, "ATTESTATION_NOT_SUPPORTED"},
-        {0x08, "PARAMS_INVALID"},
-        {0x0E, "USER_NOT_RESPONSIVE"},
-        {0x0F, "INSUFFICIENT_RESOURCES"},
-        {0x10, "USER_LOCKOUT"},
+        {UAF_STATUS_OK, "OK"},
+        {UAF_STATUS_ERR_UNKNOWN, "ERR_UNKNOWN"},
+        {UAF_STATUS_ACCESS_DENIED, "ACCESS_DENIED"},
+        {UAF_STATUS_USER_NOT_ENROLLED, "USER_NOT_ENROLLED"},
+        {UAF_STATUS_CANNOT_RENDER_TRANSACTION_CONTENT, "CANNOT_RENDER_TRANSACTION_CONTENT"},
+        {UAF_STATUS_USER_CANCELLED, "USER_CANCELLED"},
+        {UAF_STATUS_CMD_NOT_SUPPORTED, "CMD_NOT_SUPPORTED"},
+        {UAF_STATUS_ATTESTATION_NOT_SUPPORTED, "ATTESTATION_NOT_SUPPORTED"},
+        {UAF_STATUS_PARAMS_INVALID, "PARAMS_INVALID"},
+        {UAF_STATUS_USER_NOT_RESPONSIVE, "USER_NOT_RESPONSIVE"},
+        {UAF_STATUS_INSUFFICIENT_RESOURCES, "INSUFFICIENT_RESOURCES"},
+        {UAF_STATUS_USER_LOCKOUT, "USER_LOCKOUT"},
     };
     return name_in(names, COUNT(names), status);
 }

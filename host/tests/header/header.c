@@ -145,17 +145,41 @@ static void status_only(struct bytes *expected, unsigned tag, unsigned status)
     holding(expected, tag, &inner);
 }
 
-static void stored_record(struct bytes *table, unsigned count)
+/* A call that answers with a status alone and leaves the table as it is. */
+static int says(const struct bytes *command, uint8_t verdict, uint8_t display, const struct bytes *table, unsigned tag, unsigned status)
+{
+    struct bytes expected = {{0}, 0};
+    status_only(&expected, tag, status);
+    return call(command, verdict, display, table) == 0 && wrote(UAF_RESPONSE, &expected, table);
+}
+
+static void add_record(struct bytes *table, const uint8_t *key, unsigned count)
 {
     struct bytes inner = {{0}, 0};
-    tlv(&inner, 0x2E09, key_id, sizeof key_id);
+    tlv(&inner, 0x2E09, key, UAF_KEY_ID_SIZE);
     tlv(&inner, 0x2805, mixed, sizeof mixed);
     tlv(&inner, 0x2806, name, sizeof name);
     number(&inner, 0x2E0D, 2);
     number(&inner, 4, 2);
     number(&inner, count, 4);
-    table->length = 0;
     holding(table, 0x3802, &inner);
+}
+
+static void stored_record(struct bytes *table, unsigned count)
+{
+    table->length = 0;
+    add_record(table, key_id, count);
+}
+
+/* So many records of the caller's, none with the KeyID that is lent. */
+static void stored_records(struct bytes *table, unsigned number_of)
+{
+    uint8_t key[UAF_KEY_ID_SIZE];
+    table->length = 0;
+    for (unsigned i = 0; i < number_of; i++) {
+        memset(key, (int)(i + 1), sizeof key);
+        add_record(table, key, i);
+    }
 }
 
 /* ---- the children that commands share */
@@ -225,23 +249,32 @@ static void krd(struct bytes *draft)
 
 static void registers(void)
 {
-    struct bytes children = {{0}, 0}, command = {{0}, 0}, none = {{0}, 0}, draft = {{0}, 0}, table = {{0}, 0}, expected = {{0}, 0};
+    struct bytes children = {{0}, 0}, command = {{0}, 0}, none = {{0}, 0}, draft = {{0}, 0}, table = {{0}, 0};
     children_of(&children, 1, NULL);
     command_of(&command, 0x3402, &children);
     krd(&draft);
     stored_record(&table, 0);
     expect(call(&command, UAF_VERIFIED, UAF_SHOWN_CONFIRMED, &none) == 0, "Register is refused");
     expect(wrote(UAF_DRAFT, &draft, &table), "Register: profile, challenge, KeyID, public key or mixed token");
-    status_only(&expected, 0x3602, 0x10);
-    expect(call(&command, UAF_LOCKED_OUT, UAF_SHOWN_CONFIRMED, &none) == 0 && wrote(UAF_RESPONSE, &expected, &none), "Register: the verdict");
-    status_only(&expected, 0x3602, 0x01);
-    expect(call(&command, UAF_VERIFIED, UAF_SHOWN_CONFIRMED, &table) == 0 && wrote(UAF_RESPONSE, &expected, &table), "Register: the table");
+    static const uint8_t verdicts[] = {UAF_DENIED, UAF_NOT_ENROLLED, UAF_CANCELLED, UAF_NO_REPLY, UAF_LOCKED_OUT};
+    static const unsigned statuses[] = {
+        UAF_STATUS_ACCESS_DENIED, UAF_STATUS_USER_NOT_ENROLLED, UAF_STATUS_USER_CANCELLED, UAF_STATUS_USER_NOT_RESPONSIVE,
+        UAF_STATUS_USER_LOCKOUT};
+    for (size_t i = 0; i < sizeof verdicts; i++)
+        expect(says(&command, verdicts[i], UAF_SHOWN_CONFIRMED, &none, 0x3602, statuses[i]), "Register: the verdict");
+    expect(says(&command, UAF_VERIFIED, UAF_SHOWN_CONFIRMED, &table, 0x3602, UAF_STATUS_ERR_UNKNOWN), "Register: the table");
+    stored_records(&table, UAF_MOST_OWN);
+    expect(says(&command, UAF_VERIFIED, UAF_SHOWN_CONFIRMED, &table, 0x3602, UAF_STATUS_INSUFFICIENT_RESOURCES), "Register: a ninth record");
+    command.at[command.length - 7] = 0; /* the attestation type's second byte */
+    expect(says(&command, UAF_VERIFIED, UAF_SHOWN_CONFIRMED, &none, 0x3602, UAF_STATUS_ATTESTATION_NOT_SUPPORTED), "Register: the type");
+    command.length--;
+    expect(says(&command, UAF_VERIFIED, UAF_SHOWN_CONFIRMED, &none, 0x3602, UAF_STATUS_PARAMS_INVALID), "Register: cut short");
 }
 
 static void signs(void)
 {
     struct bytes children = {{0}, 0}, command = {{0}, 0}, table = {{0}, 0}, left = {{0}, 0}, info = {{0}, 0}, inner = {{0}, 0};
-    struct bytes draft = {{0}, 0}, expected = {{0}, 0};
+    struct bytes draft = {{0}, 0};
     children_of(&children, 0, "7.40 to 3");
     command_of(&command, 0x3403, &children);
     number(&info, VERSION, 2);
@@ -261,8 +294,30 @@ static void signs(void)
     stored_record(&left, 0x01020305);
     expect(call(&command, UAF_VERIFIED, UAF_SHOWN_CONFIRMED, &table) == 0, "Sign is refused");
     expect(wrote(UAF_DRAFT, &draft, &left), "Sign: nonce, hash, KeyID or count");
-    status_only(&expected, 0x3603, 0x04);
-    expect(call(&command, UAF_VERIFIED, UAF_SHOWN_NOT_RENDERED, &table) == 0 && wrote(UAF_RESPONSE, &expected, &table), "Sign: the display");
+    static const uint8_t results[] = {UAF_SHOWN_CANCELLED, UAF_SHOWN_NOT_RENDERED, UAF_SHOWN_NO_REPLY};
+    static const unsigned statuses[] = {
+        UAF_STATUS_USER_CANCELLED, UAF_STATUS_CANNOT_RENDER_TRANSACTION_CONTENT, UAF_STATUS_USER_NOT_RESPONSIVE};
+    for (size_t i = 0; i < sizeof results; i++)
+        expect(says(&command, UAF_VERIFIED, results[i], &table, 0x3603, statuses[i]), "Sign: the display");
+}
+
+static void deregisters_and_settings(void)
+{
+    struct bytes children = {{0}, 0}, command = {{0}, 0}, table = {{0}, 0}, none = {{0}, 0}, expected = {{0}, 0};
+    static const uint8_t access_token[] = {0xAA}, stranger[UAF_KEY_ID_SIZE] = {0};
+    stored_record(&table, 7);
+    tlv(&children, 0x280D, &zero, 1);
+    command_of(&command, 0x3406, &children);
+    expect(says(&command, 0, 0, &table, 0x3606, UAF_STATUS_CMD_NOT_SUPPORTED), "Open settings");
+    tlv(&children, 0x2805, access_token, 1);
+    tlv(&children, 0x2E09, stranger, sizeof stranger);
+    command_of(&command, 0x3404, &children);
+    expect(says(&command, 0, 0, &table, 0x3604, UAF_STATUS_ACCESS_DENIED), "Deregister: another KeyID");
+    children.length -= sizeof stranger;
+    stretch(&children, key_id, sizeof key_id);
+    command_of(&command, 0x3404, &children);
+    status_only(&expected, 0x3604, UAF_STATUS_OK);
+    expect(call(&command, 0, 0, &table) == 0 && wrote(UAF_RESPONSE, &expected, &none), "Deregister: the mixed token");
 }
 
 /* Each refusal of a command, and that it leaves everything as it was. */
@@ -391,6 +446,7 @@ int main(void)
     get_info();
     registers();
     signs();
+    deregisters_and_settings();
     refusals();
     completes();
     reads();
