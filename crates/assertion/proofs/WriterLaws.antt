@@ -1,21 +1,16 @@
 -- What the writers wrote: the response around an assertion.
 -- Assumes nothing.
 use mathlib.Core.Path.{_≡_, refl, _∙_}
-use mathlib.Core.List.{List, [], _∷_, _++_, append-assoc, append-nil}
+use mathlib.Core.List.{List, [], _∷_, _++_, append-assoc}
 use Prim.Native.Nat.{ℕ, _+_}
 use native.Mathlib.Omega.{arith}
 use lib.ListN.{length}
-use Rattle.model.specs.Tlv.{le, header, Tlv, tlv, bytes, tagOf, ok, assertionTag}
-use Rattle.model.proofs.Tlvs.{bytes-append, length-bytes}
+use Rattle.model.specs.Tlv.{le, Tlv, tlv, bytes, tagOf, ok, assertionTag}
+use Rattle.model.proofs.Tlvs.{bytes-append, bytes-one, length-bytes}
 use Rattle.model.proofs.CompletionWrites.{wrapped}
 use Rattle.tlv.specs.Writing.{Wrote}
 use Rattle.tlv.proofs.WriteLaws.{then, same, from-front}
 use Rattle.assertion.specs.Completions.{opening}
-
--- a TLV is its header and its value
-tlv-is : (t n : ℕ) (v : List ℕ) → length v ≡ n → bytes (tlv t v ∷ []) ≡ header t n ++ v
-unfolding bytes
-tlv-is t n v e = rw (e, append-nil)
 
 length-tlv : (t : ℕ) (v : List ℕ) → length (bytes (tlv t v ∷ [])) ≡ length v + 4
 unfolding bytes
@@ -33,10 +28,10 @@ opening-is t a v =
     let inside : List Tlv = tlv (tagOf ok) (le 2 0) ∷ tlv assertionTag held ∷ [] in
     let k : length (bytes inside) ≡ n + 14 = omega (arith, length-inside held, length-tlv a v) in
     rw (
-      tlv-is t (n + 14) (bytes inside) k,
+      bytes-one t (n + 14) (bytes inside) k,
       bytes-append (tlv (tagOf ok) (le 2 0) ∷ []) (tlv assertionTag held ∷ []),
-      tlv-is assertionTag (n + 4) held (length-tlv a v),
-      tlv-is a n v refl,
+      bytes-one assertionTag (n + 4) held (length-tlv a v),
+      bytes-one a n v refl,
     )
     (simp append-assoc)
 

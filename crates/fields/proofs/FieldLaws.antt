@@ -13,13 +13,12 @@ use Rattle.model.specs.Tlv.{Tlv, tlv, tlvs, isRun, ruleOf, tagOf, fits}
 use Rattle.model.specs.Layouts as layouts
 use Rattle.model.specs.Layouts.{Layout, field, matches}
 use Rattle.model.proofs.Basics.{and-left, and-right, impossible}
-use Rattle.model.proofs.LayoutLaws.{fits-least, fits-most}
 use Rattle.tlv.specs.Heads.{headAt, between, part}
 use Rattle.tlv.specs.Spans.{span, Inside}
 use Rattle.tlv.specs.declared.heads.Span.{Span}
 use Rattle.tlv.specs.declared.heads.Head.{Head}
 use Rattle.tlv.specs.declared.heads.Head.the-variants.{Tlv as Found, Bad, End}
-use Rattle.tlv.proofs.HeadLaws.{IsTlv, tlv-is, run-end, run-bad, run-tlv, length-part}
+use Rattle.tlv.proofs.HeadLaws.{IsTlv, tlv-is, run-end, run-bad, run-tlv}
 use Rattle.fields.specs.Fields.{named, allows, ruleWith, RuleIs, foundIn, fieldAt}
 use Rattle.fields.specs.declared.Allowed.{Allowed}
 use Rattle.fields.specs.declared.Rule.{Rule}
@@ -136,11 +135,3 @@ pub field-step : {f : model.Field} {s : List ℕ} {at : ℕ} {p : Span} (l : Lay
 field-step {f} {s} {at} {p} l i =
     rw (i .run-is)
     (matches-first f l (tlv (tagOf f) (part s p)) (tlvs (drop (p .end) s)) ∙ simp (eq-eqb (tagOf f) (tagOf f) refl, i .obeys))
-
--- a field's length obeys its rule
-module _ {f : model.Field} {s : List ℕ} {at : ℕ} {p : Span} (i : IsField f s at p) where
-  pub field-least : ruleOf f .least ≤ p .end - p .start
-  field-least = rw (length-part (i .inside)) at (fits-least f (part s p) (i .obeys))
-
-  pub field-most : p .end - p .start ≤ ruleOf f .most
-  field-most = rw (length-part (i .inside)) at (fits-most f (part s p) (i .obeys))

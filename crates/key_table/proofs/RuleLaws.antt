@@ -5,17 +5,20 @@ use mathlib.Core.Bool.{Bool, true, false, _&&_, and-true}
 use mathlib.Core.List.{List, _∷_}
 use Prim.Native.Nat.{ℕ, _≤_, _<_}
 use native.Mathlib.Omega.{arith}
+use lib.Dec.{leb}
 use lib.ListN.{length, take, drop, getD, drop-of-length-le}
-use borrow.Author.Tests.{le-leb, lt-leb}
+use borrow.Author.Tests.{leb-true, le-leb, lt-leb}
 use Rattle.model.specs.Lists.{all}
 use Rattle.model.specs.Tlv.{fits, keyId, mixedToken, username}
 use Rattle.model.specs.Records as model
-use Rattle.model.specs.Records.{recordOk, tableOk, maxCount}
+use Rattle.model.specs.Records.{recordOk, maxCount, maxRecords}
+use Rattle.model.proofs.Basics.{and-left, and-right}
 use Rattle.model.proofs.LayoutLaws.{size-fits}
-use Rattle.model.proofs.Rules.{obeys-rules}
+use Rattle.model.proofs.LayoutWritten.{member, all-member}
+use Rattle.model.proofs.Rules.{record-rules}
 use Rattle.columns.specs.Firsts.{firsts}
 use Rattle.columns.proofs.FirstLaws.{firsts-take, length-firsts}
-use Rattle.key_table.specs.Views.{viewRecord, viewTable, noRow}
+use Rattle.key_table.specs.Views.{viewRecord, viewTable, noRow, noRecord}
 use Rattle.key_table.specs.declared.records.Record.{Record}
 use Rattle.key_table.specs.declared.records.Table.{Table}
 use Rattle.key_table.proofs.ViewLaws.{length-view, row-at}
@@ -60,13 +63,17 @@ module _ (r : Record) (typed : Typed r) where
 
 -- ---- a table
 
--- what the rules say of a table by value: the rows that it has, and a name's length
-module _ (t : Table) (ok : tableOk (viewTable t) ≡ true) where
+-- what the rules of its records say of a table by value: the rows that it has, and a name's length
+module _ (t : Table) (ok : (leb (length (viewTable t)) maxRecords && all recordOk (viewTable t)) ≡ true) where
   pub few-rows : t .len ≤ 32
-  few-rows = omega (arith, obeys-rules (viewTable t) ok .few, length-view t)
+  few-rows =
+      let few : length (viewTable t) ≤ maxRecords = leb-true _ _ (and-left (leb (length (viewTable t)) maxRecords) _ ok) in
+      omega (arith, length-view t)
 
   pub short-name : t .len ≤ length (t .rows) → (i : ℕ) → i < t .len → getD (t .rows) i noRow .«name_len» ≤ 128
-  short-name fits-in i h =
+  short-name fits i h =
       let r : Record = getD (t .rows) i noRow in
-      let m = rw (row-at t fits-in i h) at (obeys-rules (viewTable t) ok .each i (rw (length-view t) h)) in
-      omega (arith, m .name-most, length-firsts 0 (r .«name_len») (r .name))
+      let k : i < length (viewTable t) = rw (length-view t) h in
+      let m : recordOk (viewRecord r) ≡ true = rw (row-at t fits i h) at
+      (all-member recordOk (member i noRecord (viewTable t) k) (and-right (leb (length (viewTable t)) maxRecords) _ ok)) in
+      omega (arith, record-rules (viewRecord r) m .name-most, length-firsts 0 (r .«name_len») (r .name))

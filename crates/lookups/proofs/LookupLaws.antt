@@ -19,7 +19,7 @@ use Rattle.tlv.specs.Heads.{part}
 use Rattle.tlv.specs.Spans.{span, noSpan, partsIn, AllInside}
 use Rattle.tlv.specs.declared.heads.Spans.{Spans}
 use Rattle.tlv.proofs.HeadLaws.{empty-size}
-use Rattle.columns.specs.Columns.{row, times}
+use Rattle.columns.specs.Columns.{row}
 use Rattle.key_table.specs.Views.{noRecord}
 use Rattle.stored_table.specs.Stored.{recordAt, tableIn, Indexed}
 use Rattle.stored_table.specs.declared.Rows.{Rows}
@@ -89,15 +89,6 @@ module _ (m : List ℕ) (hs : List (List ℕ)) {b at : List ℕ} (x : Indexed b 
 -- a place stored after k others
 pub stored : (at is : List ℕ) (k i : ℕ) → k < length at → take k at ++ (i ∷ is) ≡ take (k + 1) (set at k i) ++ is
 stored at is k i h = rw (add-one k, take-suc-set at k i h) (sym (append-assoc (take k at) (i ∷ []) is))
-
--- ---- how many records a mixed token has
-
-pub times-own : (m : List ℕ) (t : model.Table) → times m (map (λ r. r .mixed) t) ≡ length (own m t)
-unfolding times own
-times-own m [] = refl
-times-own m (r ∷ t) =
-    let ih = times-own m t in
-    split (eqBytes (r .mixed) m) (λ e. rw e (ap suc ih)) (λ e. rw e ih)
 
 -- ---- the places of the elements that pass a test
 

@@ -4,17 +4,17 @@ use mathlib.Core.Path.{_≡_, refl, sym, ap, _∙_}
 use mathlib.Core.Bool.{Bool, true, cond, _&&_}
 use mathlib.Core.List.{List, [], _∷_, map}
 use mathlib.Core.Option.{Option, none, some, bind}
-use Prim.Native.Nat.{ℕ, zero, suc, _*_, _/_, _≤_}
+use Prim.Native.Nat.{ℕ, zero, suc, _*_, _/_, _≤_, _<_}
 use native.Mathlib.Omega.{arith}
 use lib.ListN.{length, drop, getD, replicate, length-append}
 use lib.Dec.{lit<, leb}
-use borrow.Author.Tests.{leb-true}
+use borrow.Author.Tests.{leb-true, le-leb}
 use Rattle.model.specs.Lists.{all, eqBytes}
 use Rattle.model.specs.Tlv.{Bytes, num, le, Tlv, tlv, bytes, tlvs, fits, keyId, mixedToken, username, counter, pairTag}
 use Rattle.model.specs.Layouts.{fill, write, matches}
 use Rattle.model.specs.Records.{Record, Table, maxCount, recordOk, own, maxRecords, tableOk, recordFields, storedRecord, encode, maxStored, storedAs, tableFrom, decode}
 use Rattle.model.proofs.Basics.{split, and-left, and-right, both, impossible}
-use Rattle.model.proofs.Numbers.{length-le, bytes-le, num-le, le-num}
+use Rattle.model.proofs.Numbers.{length-le, bytes-le, num-le, le-num, num-bound}
 use Rattle.model.proofs.Tlvs.{Sized, Held, bytes-append, tlvs-bytes, bytes-tlvs, bytes-join}
 use Rattle.model.proofs.LayoutLaws.{fitAll, AllBytes, fits-most, fits-least, length-write, tlvs-fill, matches-fill, matched, first-bytes, rest-bytes, write-bytes}
 
@@ -76,6 +76,19 @@ values-back vs b e =
     let c : Bytes (fourth vs) = search (first-bytes, rest-bytes) in
     rw (counter-back (fourth vs) c k)
 
+-- what is read obeys the record rules
+record-in : (vs : List (List ℕ)) → AllBytes vs → fitAll recordFields vs ≡ true → recordOk (recordIn vs) ≡ true
+unfolding recordOk fitAll
+record-in vs b e =
+    let k : fits keyId (getD vs 0 []) ≡ true = search and-left in
+    let m : fits mixedToken (getD (drop 1 vs) 0 []) ≡ true = search (and-left, and-right) in
+    let n : fits username (getD (drop 1 (drop 1 vs)) 0 []) ≡ true = search (and-left, and-right) in
+    let f : fits counter (fourth vs) ≡ true = search (and-left, and-right) in
+    let c : Bytes (fourth vs) = search (first-bytes, rest-bytes) in
+    let l : length (fourth vs) ≡ 4 = omega (arith, fits-least counter (fourth vs) f, fits-most counter (fourth vs) f) in
+    let h : num (fourth vs) < 4294967296 = rw l at (num-bound (fourth vs) c) in
+    both (both (both k m) n) (le-leb (num (fourth vs)) maxCount (omega arith))
+
 -- ---- a table and the TLVs that it is stored in
 
 abbrev stored : Table → List Tlv
@@ -127,19 +140,34 @@ decode-encode t e =
 record Stands (t : Table) (ts : List Tlv) : Type 0 where
   same : stored t ≡ ts
   held : TableBytes t
+  rules : all recordOk t ≡ true
 
 stands-one : (vs : List (List ℕ)) (x : Tlv) (t : Table) (ts : List Tlv) → AllBytes vs → fitAll recordFields vs ≡ true → holding vs ≡ x
     → Stands t ts → Stands (storedAs x ∷ t) (x ∷ ts)
 stands-one vs x t ts b f p s =
     let q : storedAs x ≡ recordIn vs = ap storedAs (sym p) ∙ stored-values vs f in
-    rw q (record { same = cc (values-back vs b f); held = (search (first-bytes, rest-bytes), s .held) })
+    rw q
+    (record {
+      same = cc (values-back vs b f);
+      held = (search (first-bytes, rest-bytes), s .held);
+      rules = both (record-in vs b f) (s .rules);
+    })
 
 stands : (ts : List Tlv) → Held ts → all matching ts ≡ true → Stands (map storedAs ts) ts
 unfolding fill fitAll
-stands [] b e = record { same = refl; held = tt }
+stands [] b e = record { same = refl; held = tt; rules = refl }
 stands (x ∷ ts) b e =
     let m = matched storedRecord (x ∷ []) (b .0, tt) (and-left (matching x) _ e) in
     stands-one (m .values) x (map storedAs ts) ts (m .held) (search (and-left, and-right)) (cc) (stands ts (b .1) (and-right (matching x) _ e))
+
+module _ (ts : List Tlv) (b : Held ts) (e : all matching ts ≡ true) where
+  -- TLVs that are stored records are the stored form of the table read from them
+  pub encode-stored : encode (map storedAs ts) ≡ bytes ts
+  encode-stored = bytes-stored (map storedAs ts) ∙ ap bytes (stands ts b e .same)
+
+  -- whose records obey their rules
+  pub stored-rules : all recordOk (map storedAs ts) ≡ true
+  stored-rules = stands ts b e .rules
 
 -- what decodes: a run of TLVs that match, and a table that obeys the rules
 record Decoded (s : List ℕ) (t : Table) : Type 0 where
@@ -170,7 +198,7 @@ pub encode-decode : (s : List ℕ) (t : Table) → Bytes s → decode s ≡ some
 encode-decode s t b e =
     let d = decoded s t e in
     let r = bytes-tlvs s (d .run) b (d .read) in
-    cc (bytes-stored t, stands (d .run) (r .held) (d .match) .same)
+    ap encode (sym (d .same)) ∙ encode-stored (d .run) (r .held) (d .match) ∙ r .written
 
 -- and the table's fields are bytes
 pub decode-bytes : (s : List ℕ) (t : Table) → Bytes s → decode s ≡ some t → TableBytes t
@@ -195,7 +223,8 @@ encode-bytes (r ∷ t) h =
 
 -- ---- its length
 
-length-records : (t : Table) → all recordOk t ≡ true → length (encode t) ≤ 216 * length t
+-- a record takes 216 bytes at most
+pub length-records : (t : Table) → all recordOk t ≡ true → length (encode t) ≤ 216 * length t
 unfolding encode fitAll
 length-records [] e = omega arith
 length-records (r ∷ t) e =

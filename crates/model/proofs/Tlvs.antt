@@ -1,7 +1,7 @@
 -- Runs of TLVs: what is written is read, and what is read was written.
 -- Assumes nothing.
 use mathlib.Core.Path.{_≡_, refl}
-use mathlib.Core.List.{List, [], _∷_, _++_, append-assoc}
+use mathlib.Core.List.{List, [], _∷_, _++_, append-assoc, append-nil}
 use mathlib.Core.Option.{some, map-eq-some-iff}
 use Prim.Native.Nat.{ℕ, zero, suc, _+_, _≤_, _<_, zero-le}
 use native.Mathlib.Omega.{arith}
@@ -25,6 +25,11 @@ pub bytes-append : (ts us : List Tlv) → bytes (ts ++ us) ≡ bytes ts ++ bytes
 unfolding bytes le
 bytes-append [] us = refl
 bytes-append (t ∷ ts) us = rw (bytes-append ts us) (simp append-assoc)
+
+-- a TLV is its header and its value
+pub bytes-one : (tag n : ℕ) (v : List ℕ) → length v ≡ n → bytes (tlv tag v ∷ []) ≡ header tag n ++ v
+unfolding bytes
+bytes-one tag n v e = rw (e, append-nil)
 
 pub length-bytes : (t : Tlv) (ts : List Tlv) → length (bytes (t ∷ ts)) ≡ 4 + length (t .value) + length (bytes ts)
 unfolding bytes le

@@ -2,22 +2,22 @@
 -- Assumes nothing.
 use mathlib.Core.Path.{_≡_, refl, sym, ap, _∙_}
 use mathlib.Core.Bool.{Bool, true, false}
-use mathlib.Core.List.{List, [], _∷_, _++_, append-assoc, append-nil}
-use Prim.Native.Nat.{ℕ, zero, suc, _+_, _*_, _-_, _≤_, _<_}
-use native.Mathlib.Nat.{zero-add, sub-zero}
+use mathlib.Core.List.{List, [], _∷_, _++_, append-assoc}
+use Prim.Native.Nat.{ℕ, suc, _+_, _-_, _≤_, _<_}
+use native.Mathlib.Nat.{sub-zero}
 use native.Mathlib.Numerals.{add-one}
 use native.Mathlib.Omega.{arith}
 use lib.ListN.{length, getD, take, drop, set, length-append, length-drop}
 use lib.Seq.{take-suc, take-all, take-at, drop-at, set-split, split-at}
-use Rattle.model.specs.Lists.{all, select}
-use Rattle.model.specs.Tlv.{le, tlv, bytes, header, pairTag}
+use Rattle.model.specs.Lists.{select}
+use Rattle.model.specs.Tlv.{le}
 use Rattle.model.specs.Records as model
-use Rattle.model.specs.Records.{recordOk, tableOk, encode, maxStored}
+use Rattle.model.specs.Records.{tableOk, encode, maxStored}
 use Rattle.model.specs.Commands.{apply, add, withCount}
-use Rattle.model.proofs.Basics.{split, and-left, and-right, select-append}
+use Rattle.model.proofs.Basics.{split, select-append}
 use Rattle.model.proofs.Numbers.{length-le}
-use Rattle.model.proofs.Rules.{RecordRules, record-rules, obeys-rules, tests}
-use Rattle.model.proofs.Tlvs.{bytes-append}
+use Rattle.model.proofs.Rules.{obeys-rules, tests}
+use Rattle.model.proofs.StoredForm.{length-records}
 use Rattle.tlv.specs.Heads.{between}
 use Rattle.tlv.specs.Writing.{Wrote}
 use Rattle.tlv.proofs.WriteLaws.{then, same, from-front, wrote-none}
@@ -26,43 +26,16 @@ use Rattle.key_table.specs.Changes.{goes, removal}
 use Rattle.key_table.specs.declared.records.Record.{Record}
 use Rattle.key_table.proofs.ViewLaws.{view-row}
 use Rattle.key_table.proofs.ChangeLaws.{stays, removal-selects}
-use Rattle.stored_table.specs.Stored.{nameSize, recordAt, tableIn, starts, Indexed}
-use Rattle.stored_table.proofs.IndexLaws.{length-one, encode-append, length-places, record-at}
+use Rattle.stored_table.specs.Stored.{nameSize, recordAt, tableIn, Indexed}
+use Rattle.stored_table.proofs.IndexLaws.{upTo, encode-append, encode-count, length-upTo, record-at, numbered, place-is}
 use Rattle.table_bytes.specs.Left.{stayingOf}
-use Rattle.table_bytes.proofs.StoreLaws.{fields, inside, encode-one}
-
--- ---- where a record starts
-
-start-at : (p : ℕ) (t : model.Table) → all recordOk t ≡ true → (i : ℕ) → i < length t → getD (starts p t) i 0 ≡ p + length (encode (take i t))
-unfolding starts encode
-start-at p [] ok i h = absurd (omega arith)
-start-at p (r ∷ t) ok zero h = omega arith
-start-at p (r ∷ t) ok (suc i) h =
-    let rules : RecordRules r = record-rules r (and-left (recordOk r) _ ok) in
-    omega (arith, start-at (p + 88 + length (r .name)) t (and-right (recordOk r) _ ok) i (omega arith), length-one r (take i t) rules)
-
-module _ {b at : List ℕ} (x : Indexed b at) (i : ℕ) (h : i < length at) where
-  numbered : i < length (tableIn b)
-  numbered = omega (arith, length-places x)
-
-  -- a record starts where those before it end
-  place-is : getD at i 0 ≡ length (encode (take i (tableIn b)))
-  place-is = rw (x .places) (start-at 0 (tableIn b) (tests (tableIn b) (x .ok) .each) i numbered ∙ zero-add _)
 
 -- ---- a record more
 
--- a stored record takes 216 bytes at most
-length-most : (t : model.Table) → all recordOk t ≡ true → length (encode t) ≤ 216 * length t
-unfolding encode
-length-most [] ok = omega arith
-length-most (r ∷ t) ok =
-    let rules : RecordRules r = record-rules r (and-left (recordOk r) _ ok) in
-    omega (arith, length-one r t rules, length-most t (and-right (recordOk r) _ ok))
-
 module _ {b : List ℕ} (t : model.Table) (whole : encode t ≡ b) where
-  -- so one more finds room
+  -- one more finds room
   pub room-more : tableOk t ≡ true → length t < 32 → length b + 216 ≤ maxStored
-  room-more ok h = omega (arith, ap length whole, length-most t (tests t ok .each))
+  room-more ok h = omega (arith, ap length whole, length-records t (tests t ok .each))
 
   pub wrote-added : {k m : List ℕ} (v : List ℕ) {r : Record} {d d₁ d₂ : List ℕ} {n a₁ a₂ : ℕ} → length v ≤ 128 → r ≡ rowOf k m v 0
       → Wrote d 0 b (length b) d₁ a₁
@@ -75,30 +48,6 @@ module _ {b : List ℕ} (t : model.Table) (whole : encode t ≡ b) where
       from-front (same w refl (then p q))
 
 -- ---- another count
-
-bytes-one : (tag : ℕ) (v : List ℕ) → bytes (tlv tag v ∷ []) ≡ header tag (length v) ++ v
-unfolding bytes
-bytes-one tag v = rw append-nil
-
--- a record's bytes up to its counter
-unfoldable upTo : model.Record → List ℕ
-upTo r = header pairTag (length (bytes (fields r)) + 8) ++ (bytes (fields r) ++ header 0x2E0D 4)
-
--- whatever the counter is
-encode-count : (r : model.Record) (n : ℕ) (t : model.Table) → encode (withCount r n ∷ t) ≡ upTo r ++ (le 4 n ++ encode t)
-unfolding upTo
-encode-count r n t =
-    let v : List ℕ = bytes (fields r) ++ (header 0x2E0D 4 ++ le 4 n) in
-    let e : bytes (inside (withCount r n)) ≡ v =
-    rw (bytes-append (fields r) (tlv 0x2E0D (le 4 n) ∷ []), bytes-one 0x2E0D (le 4 n), length-le 4 n) in
-    let l : length v ≡ length (bytes (fields r)) + 8 = simp (length-append, length-le) in
-    encode-append (withCount r n ∷ []) t ∙ rw (← encode-one (withCount r n), e, bytes-one pairTag v, l) (simp append-assoc)
-
-length-upTo : (r : model.Record) → RecordRules r → length (upTo r) ≡ 84 + length (r .name)
-length-upTo r h =
-    let e : length (encode (r ∷ [])) ≡ length (upTo r) + (4 + length (encode [])) =
-    ap length (encode-count r (r .count) []) ∙ simp (length-append, length-le) in
-    omega (arith, length-one r [] h)
 
 module _ {b at : List ℕ} (x : Indexed b at) (i : ℕ) (h : i < length at) where
   abbrev old : model.Record

@@ -5,8 +5,8 @@ use mathlib.Core.List.{List, [], _∷_, _++_, map, map-append, append-assoc}
 use Prim.Native.Nat.{ℕ, _+_, _≤_, _<_}
 use native.Mathlib.Numerals.{add-one}
 use native.Mathlib.Omega.{arith}
-use lib.ListN.{length, getD, take, drop, length-drop}
-use lib.Seq.{take-suc, length-take-le}
+use lib.ListN.{length, getD, take}
+use lib.Seq.{take-suc}
 use Rattle.model.specs.Tlv.{tlv, bytes, header, pairTag}
 use Rattle.model.specs.Layouts.{fill, write}
 use Rattle.model.specs.Records as model
@@ -14,6 +14,7 @@ use Rattle.tlv.specs.Writing.{Wrote}
 use Rattle.tlv.proofs.WriteLaws.{then, then-run, then-value, same, wrote-none}
 use Rattle.key_table.specs.Views.{noRecord}
 use Rattle.stored_table.specs.Stored.{nameSize, recordAt, Stands}
+use Rattle.stored_table.proofs.IndexLaws.{name-length, key-length}
 use Rattle.table_bytes.specs.Pairs.{pairsOf}
 
 -- ---- a pair
@@ -23,15 +24,6 @@ unfolding pairsOf write fill
 pairs-one r = refl
 
 module _ (b : List ℕ) (p : ℕ) (h : Stands b p) where
-  -- how long the name and the KeyID of the record at a place are
-  pub name-length : {v : List ℕ} → v ≡ recordAt b p .name → length v ≡ nameSize b p
-  unfolding recordAt
-  name-length e = rw e (length-take-le (nameSize b p) (drop (p + 80) b) (simp length-drop (omega arith)))
-
-  pub key-length : {k : List ℕ} → k ≡ recordAt b p .keyId → length k ≡ 32
-  unfolding recordAt
-  key-length e = rw e (length-take-le 32 (drop (p + 8) b) (simp length-drop (omega arith)))
-
   -- a header, and the two fields one after the other
   pub wrote-pair : {d d₁ d₂ d₃ v k : List ℕ} {at a₁ a₂ a₃ n : ℕ} → n ≡ nameSize b p → v ≡ recordAt b p .name → k ≡ recordAt b p .keyId
       → Wrote d at (header pairTag (40 + n)) 4 d₁ a₁
@@ -41,7 +33,7 @@ module _ (b : List ℕ) (p : ℕ) (h : Stands b p) where
   wrote-pair {d₁ = d₁} {d₃ = d₃} {a₁ = a₁} {a₃ = a₃} {n = n} l e f q x y =
       let r : model.Record = recordAt b p in
       let w : Wrote d₁ a₁ (bytes (tlv 0x2806 (r .name) ∷ tlv 0x2801 (r .keyId) ∷ [])) (40 + n) d₃ a₃ =
-      rw (← e, ← f) (same refl (omega (arith, name-length e, key-length f)) (then-run _ _ x y)) in
+      rw (← e, ← f) (same refl (omega (arith, name-length b p h e, key-length b p h f)) (then-run _ _ x y)) in
       same (pairs-one r) (omega arith) (then-value pairTag q w)
 
 -- ---- one pair after another

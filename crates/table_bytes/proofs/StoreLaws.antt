@@ -1,43 +1,24 @@
--- The stored form as it is written: a record field by field, a table record by record, and that there is room for it.
+-- The stored form as it is written: a record field by field, a table record by record.
 -- Assumes nothing.
 use mathlib.Core.Path.{_≡_, refl, sym, ap}
-use mathlib.Core.Bool.{true, _&&_}
-use mathlib.Core.List.{List, [], _∷_, _++_, append-nil}
+use mathlib.Core.List.{List, [], _∷_, _++_}
 use Prim.Native.Nat.{ℕ, _+_, _≤_, _<_}
 use native.Mathlib.Omega.{arith}
 use lib.ListN.{length, getD, take}
-use lib.Dec.{leb}
 use lib.Seq.{take-all}
-use borrow.Author.Tests.{leb-true}
-use Rattle.model.specs.Lists.{all}
-use Rattle.model.specs.Tlv.{le, Tlv, tlv, bytes, header, pairTag}
-use Rattle.model.specs.Layouts.{fill, write}
+use Rattle.model.specs.Tlv.{le, tlv, bytes, header, pairTag}
 use Rattle.model.specs.Records as model
-use Rattle.model.specs.Records.{recordOk, maxRecords, encode}
-use Rattle.model.proofs.Basics.{and-left, and-right}
-use Rattle.model.proofs.LayoutWritten.{member, all-member}
-use Rattle.model.proofs.Rules.{record-rules}
+use Rattle.model.specs.Records.{encode}
 use Rattle.tlv.specs.Writing.{Wrote}
 use Rattle.tlv.proofs.WriteLaws.{then, then-run, then-value, same, wrote-none}
-use Rattle.columns.proofs.FirstLaws.{firsts-take, length-firsts}
-use Rattle.key_table.specs.Views.{viewRecord, viewTable, noRow, noRecord}
+use Rattle.columns.proofs.FirstLaws.{firsts-take}
+use Rattle.key_table.specs.Views.{viewRecord, viewTable, noRow}
 use Rattle.key_table.specs.declared.records.Record.{Record}
 use Rattle.key_table.specs.declared.records.Table.{Table}
-use Rattle.key_table.proofs.ViewLaws.{length-view, row-at, take-next}
-use Rattle.stored_table.proofs.IndexLaws.{encode-append}
+use Rattle.key_table.proofs.ViewLaws.{length-view, take-next}
+use Rattle.stored_table.proofs.IndexLaws.{inside, encode-one, encode-append}
 
 -- ---- a record
-
--- the TLVs in a stored record: those before the counter, and all
-abbrev pub fields : model.Record → List Tlv
-fields r = tlv 0x2E09 (r .keyId) ∷ tlv 0x2805 (r .mixed) ∷ tlv 0x2806 (r .name) ∷ []
-
-abbrev pub inside : model.Record → List Tlv
-inside r = fields r ++ (tlv 0x2E0D (le 4 (r .count)) ∷ [])
-
-pub encode-one : (r : model.Record) → bytes (tlv pairTag (bytes (inside r)) ∷ []) ≡ encode (r ∷ [])
-unfolding encode write fill
-encode-one r = rw append-nil
 
 module _ {d d₁ d₂ d₃ d₄ d₅ : List ℕ} {at a₁ a₂ a₃ a₄ a₅ : ℕ} (r : Record) where
   -- a header, and the four fields one after the other
@@ -55,21 +36,6 @@ module _ {d d₁ d₂ d₃ d₄ d₅ : List ℕ} {at a₁ a₂ a₃ a₄ a₅ : 
       same (encode-one (viewRecord r)) (omega arith) (then-value pairTag p q)
 
 -- ---- a table
-
--- what the rules of its records say of a table by value: the rows that it has, and a name's length
-module _ (t : Table) (ok : (leb (length (viewTable t)) maxRecords && all recordOk (viewTable t)) ≡ true) where
-  pub few-rows : t .len ≤ 32
-  few-rows =
-      let few : length (viewTable t) ≤ maxRecords = leb-true _ _ (and-left (leb (length (viewTable t)) maxRecords) _ ok) in
-      omega (arith, length-view t)
-
-  pub short-name : t .len ≤ length (t .rows) → (i : ℕ) → i < t .len → getD (t .rows) i noRow .«name_len» ≤ 128
-  short-name fits i h =
-      let r : Record = getD (t .rows) i noRow in
-      let k : i < length (viewTable t) = rw (length-view t) h in
-      let m : recordOk (viewRecord r) ≡ true = rw (row-at t fits i h) at
-      (all-member recordOk (member i noRecord (viewTable t) k) (and-right (leb (length (viewTable t)) maxRecords) _ ok)) in
-      omega (arith, record-rules (viewRecord r) m .name-most, length-firsts 0 (r .«name_len») (r .name))
 
 -- nothing written yet
 pub stored-none : (d : List ℕ) (t : model.Table) → Wrote d 0 (encode (take 0 t)) 0 d 0

@@ -21,6 +21,7 @@ use Rattle.model.specs.Records as model
 use Rattle.model.specs.Records.{maxRecords, tableOk, recordFields, storedAs, decode}
 use Rattle.model.proofs.Basics.{impossible, both, all-append}
 use Rattle.model.proofs.Tlvs.{bytes-append, length-bytes, bytes-tlvs}
+use Rattle.model.proofs.StoredForm.{encode-stored, stored-rules}
 use Rattle.tlv.specs.Heads.{headAt, between}
 use Rattle.tlv.specs.declared.heads.Span.{Span}
 use Rattle.tlv.specs.declared.heads.Head.the-variants.{Bad, End}
@@ -30,9 +31,10 @@ use Rattle.fields.specs.declared.Found.the-variants.{Missing}
 use Rattle.fields.proofs.FieldLaws.{IsField, end-first, field-not, field-step}
 use Rattle.columns.specs.Columns.{Within}
 use Rattle.stored_table.specs.Stored.{tableIn}
+use Rattle.stored_table.proofs.IndexLaws.{Located, located, located-stand, located-keys, located-mixed, stand-within}
 use Rattle.table_index.specs.Places.{isStored, fewDistinct, Loaded, PlacesAre}
 use Rattle.table_index.specs.declared.Places.{Places}
-use Rattle.table_index.proofs.RunLaws.{tlvStarts, starts-more, stored-run, RowsAre, rows-are, few-decides}
+use Rattle.table_index.proofs.RunLaws.{tlvStarts, starts-more, run-starts, few-decides}
 
 -- what a slice of bytes holds
 slice-bytes : (s : List ℕ) → ((i : ℕ) → Fits w8 (getD s i 0)) → Bytes s
@@ -73,11 +75,11 @@ unread-none {v} {at} u =
 -- ---- all records read
 
 module _ {s at : List ℕ} {n : ℕ} (l : Loaded s at n) where
-  loaded-rows : RowsAre s (take n at) (l .table)
-  loaded-rows = rw (l .places) (rows-are s 0 (l .table) (omega arith) (sym (l .whole)) (l .rules))
+  all-located : Located s (take n at) (l .table)
+  all-located = rw (l .places) (located s 0 (l .table) (omega arith) (sym (l .whole)) (l .rules))
 
   pub loaded-within : Within 44 (take n at) s
-  loaded-within = loaded-rows .within
+  loaded-within = stand-within s (take n at) 44 (omega arith) (located-stand s (take n at) (l .table) all-located)
 
   table-in : decode s ≡ some (l .table) → tableIn s ≡ l .table
   unfolding tableIn
@@ -97,9 +99,10 @@ module _ {s at : List ℕ} {n : ℕ} (l : Loaded s at n) where
   -- what the places and the test of these rows give
   pub loaded-are : (b : Bool) → b ≡ fewDistinct s (take n at) → PlacesAre s (record { ok = b; at = at; len = n })
   loaded-are b e =
-      let r = loaded-rows in
+      let keys = located-keys s (take n at) (l .table) all-located in
+      let mixed = located-mixed s (take n at) (l .table) all-located in
       let k : length (l .table) ≤ maxRecords = omega (arith, l .few, l .size) in
-      let o : tableOk (l .table) ≡ b = few-decides (l .table) k (l .rules) ∙ sym (rw (r .keys, r .mixed) at e) in
+      let o : tableOk (l .table) ≡ b = few-decides (l .table) k (l .rules) ∙ sym (rw (keys, mixed) at e) in
       places-are b (l .view ∙ rw o) o
 
 -- where nothing decodes no places are given
@@ -175,14 +178,13 @@ module _ {s at : List ℕ} {n place : ℕ} (p : Loading s at n place) where
   load-end f e =
       let r : tlvs s ≡ some (p .run) = p .rest ∙ rw (run-end s place e) (ap some (append-nil (p .run))) in
       let q = bytes-tlvs s (p .run) (slice-bytes s f) r in
-      let w = stored-run (p .run) (q .sized) (q .held) (p .match) in
       record {
         few = p .few;
         table = map storedAs (p .run);
         size = rw length-map (p .count);
-        whole = w .written ∙ q .written;
-        places = p .places ∙ w .places 0;
-        rules = w .rules;
+        whole = encode-stored (p .run) (q .held) (p .match) ∙ q .written;
+        places = p .places ∙ run-starts 0 (p .run) (q .held) (p .match);
+        rules = stored-rules (p .run) (q .held) (p .match);
         view = rw (r, p .match);
       }
 

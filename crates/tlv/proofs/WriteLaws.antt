@@ -1,7 +1,7 @@
 -- Writes over a stretch: one after another, as stores, as a copy, and as TLVs.
 -- Assumes nothing.
 use mathlib.Core.Path.{_≡_, refl, sym, ap, _∙_}
-use mathlib.Core.List.{List, [], _∷_, _++_, append-assoc, append-nil}
+use mathlib.Core.List.{List, [], _∷_, _++_, append-assoc}
 use Prim.Native.Nat.{ℕ, suc, _+_, _≤_, _<_}
 use native.Mathlib.Nat.{add-zero}
 use native.Mathlib.Numerals.{add-one}
@@ -9,7 +9,7 @@ use native.Mathlib.Omega.{arith}
 use lib.ListN.{length, getD, take, drop, set, length-append, length-drop, take-append-drop}
 use lib.Seq.{take-length, paste, paste-suc, take-at, drop-at, length-take-le, drop-drop, sets, sets-eq}
 use Rattle.model.specs.Tlv.{Tlv, tlv, header, bytes}
-use Rattle.model.proofs.Tlvs.{bytes-append}
+use Rattle.model.proofs.Tlvs.{bytes-append, bytes-one}
 use Rattle.tlv.specs.Writing.{splice, Wrote}
 
 -- ---- splice
@@ -78,23 +78,18 @@ module _ {d d₁ d₂ : List ℕ} {at m n r₁ r₂ : ℕ} (ts us : List Tlv) wh
 module _ {d d₁ d₂ v : List ℕ} {at n r₁ r₂ : ℕ} (tag : ℕ) where
   -- a header, and a value of the length that it says
   pub then-value : Wrote d at (header tag n) 4 d₁ r₁ → Wrote d₁ r₁ v n d₂ r₂ → Wrote d at (bytes (tlv tag v ∷ [])) (4 + n) d₂ r₂
-  unfolding bytes
-  then-value p q =
-      let e : header tag n ++ v ≡ header tag (length v) ++ (v ++ []) = rw (q .size, append-nil) in
-      same e refl (then p q)
+  then-value p q = same (sym (bytes-one tag n v (q .size))) refl (then p q)
 
 -- a value, and then before it the header of its length
 pub header-last : {d d₁ d₂ v : List ℕ} {n r₁ r₂ : ℕ} (tag m : ℕ) → m ≡ n → Wrote d 4 v n d₁ r₁ → Wrote d₁ 0 (header tag m) 4 d₂ r₂
     → Wrote d 0 (bytes (tlv tag v ∷ [])) (4 + n) d₂ r₁
-unfolding bytes
 header-last {d} {d₁} {d₂} {v} {n} tag m k p q =
     let a : length (take 4 d) ≡ 4 = length-take-le 4 d (omega (arith, p)) in
     let e : drop 4 d₁ ≡ v ++ drop (4 + length v) d = rw (p .bytes) (drop-at (take 4 d) (v ++ drop (4 + length v) d) 4 a) in
-    let h : m ≡ length v = omega (arith, p) in
+    let h : length v ≡ m = omega (arith, p) in
     let x : List ℕ = header tag m ++ v in
-    let f : header tag m ++ (v ++ []) ≡ x = rw append-nil in
     let s : 0 + length x ≡ 4 + length v = omega (arith, length-append (header tag m) v, q .size) in
-    rw (← h, f)
+    rw (bytes-one tag m v h)
     (record {
       size = omega (arith, p);
       room = omega (arith, p);

@@ -1,8 +1,7 @@
 use native.Mathlib.Omega.{arith}
 use denote.Ref.{now}
 use Rattle.stored_table.specs.Stored.{tableIn}
-use Rattle.stored_table.proofs.IndexLaws.{all-stand, stand-within, mixed-are}
-use Rattle.lookups.proofs.LookupLaws.{times-own}
+use Rattle.stored_table.proofs.IndexLaws.{all-stand, stand-within, mixed-are, times-own}
 use Rattle.lookups.proofs.own_count.Statement.{statement}
 use Rattle.lookups.proofs.own_count.Tie as tie
 

@@ -5,7 +5,7 @@ use lib.ListN.{length}
 use native.Mathlib.Omega.{arith}
 use Rattle.model.specs.Tlv.{sign, challengeHash}
 use borrow.Author.Needs.{needs}
-use Rattle.table_bytes.proofs.PairLaws.{key-length}
+use Rattle.stored_table.proofs.IndexLaws.{key-length}
 use Rattle.decisions.proofs.AnswerLaws.{placed-short}
 use Rattle.signing.proofs.SignLaws.{count-rises, one-fails, one-passes}
 use Rattle.signing.proofs.sign_one.Statement.{statement}

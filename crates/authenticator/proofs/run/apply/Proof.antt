@@ -1,8 +1,8 @@
 use mathlib.Core.Path.{ap, _∙_}
 use lib.ListN.{length}
 use native.Mathlib.Omega.{arith}
+use Rattle.model.proofs.Rules.{tests}
 use Rattle.key_table.proofs.ViewLaws.{length-view}
-use Rattle.key_table.proofs.RuleLaws.{few-rows}
 use Rattle.authenticator.proofs.CallLaws.{arm-can, arm-apply, left-kept, left-same, set-counted}
 use borrow.Author.Needs.{needs}
 use Rattle.authenticator.proofs.run.apply.Statement.{statement}
@@ -29,7 +29,7 @@ enum-known-change-2 c = search needs
 set-count-requires : tie.Need-set-count-requires
 set-count-requires c κs =
     let s = c .before .before .before .before .before .before in
-    omega (arith, arm-can _ _ _ _ (c .before .change2 .given .1) (s .pre .1), length-view (s .args .t), few-rows _ (s .pre .0))
+    omega (arith, arm-can _ _ _ _ (c .before .change2 .given .1) (s .pre .1), length-view (s .args .t), tests _ (s .pre .0) .few)
 
 enum-known-change-3 : tie.Need-enum-known-change-3
 enum-known-change-3 c = search needs
@@ -38,7 +38,9 @@ part-of-requires-2 : tie.Need-part-of-requires-2
 part-of-requires-2 c κs = arm-can _ _ _ _ (c .before .change3 .given .1) (c .before .before .before .before .before .before .pre .1)
 
 remove-requires : tie.Need-remove-requires
-remove-requires c κs = few-rows _ (c .before .before .before .before .before .before .before .pre .0)
+remove-requires c κs =
+    let s = c .before .before .before .before .before .before .before in
+    omega (arith, length-view (s .args .t), tests _ (s .pre .0) .few)
 
 returns : tie.Need-returns
 returns c = left-same (arm-apply _ _ _ _ (c .enum-told .given .1)) (left-kept _)

@@ -1,6 +1,7 @@
 use native.Mathlib.Omega.{arith}
 use borrow.Author.Needs.{needs}
-use Rattle.table_bytes.proofs.PairLaws.{name-length, key-length, wrote-pair}
+use Rattle.stored_table.proofs.IndexLaws.{name-length, key-length}
+use Rattle.table_bytes.proofs.PairLaws.{wrote-pair}
 use Rattle.table_bytes.proofs.pairs.put_pair.Statement.{statement}
 use Rattle.table_bytes.proofs.pairs.put_pair.Tie as tie
 

@@ -6,7 +6,8 @@ use borrow.Author.Needs.{needs}
 use Rattle.model.specs.Records.{encode}
 use Rattle.tlv.specs.Writing.{Wrote}
 use Rattle.key_table.specs.Views.{viewTable, noRow}
-use Rattle.table_bytes.proofs.StoreLaws.{few-rows, short-name, stored-none, stored-more, stored-all}
+use Rattle.key_table.proofs.RuleLaws.{few-rows, short-name}
+use Rattle.table_bytes.proofs.StoreLaws.{stored-none, stored-more, stored-all}
 use Rattle.table_bytes.proofs.stored.write_table.Statement.{statement}
 use Rattle.table_bytes.proofs.stored.write_table.Tie as tie
 
