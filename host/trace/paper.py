@@ -1,8 +1,8 @@
 """Document 01 in Python, to work out what the calls of a trace must give: the stored output of `crates/trace` comes from here.
 
 It shares no text with the proved code or its definitions and is built another way. The same people wrote both, so a misreading of the
-paper that they share would not show. Only what the trace needs is here: the five commands and the stored form of the table; completion and
-the response reader are in responses.py."""
+paper that they share would not show. Only what the trace needs is here: the five commands, on a stored table and on one by value, and the
+stored form of the table; completion and the response reader are in responses.py."""
 
 GETINFO, REGISTER, SIGN, DEREGISTER, OPEN_SETTINGS = 0x3401, 0x3402, 0x3403, 0x3404, 0x3406
 KEYHANDLE, USERVERIFY_TOKEN, APPID, ACCESS_TOKEN, USERNAME = 0x2801, 0x2803, 0x2804, 0x2805, 0x2806
@@ -174,6 +174,21 @@ def call(lent):
     table = load(lent["table"])
     kind, answer = perform(lent, table)
     return 0, kind, answer, store(table)
+
+
+def call_by_value(lent, table):
+    """(refusal, kind, answer, table left) on a table that is a list of records, which may break a rule. No stored table is written, so there
+    is no second output that could be too short; after a refusal the table left is the one that came."""
+    n, kind, answer, left = call({**lent, "table": store(table), "table_output": 6912})
+    return n, kind, answer, table if n else load(left)
+
+
+def store_into(table, size):
+    """(refusal, stored form) of storing a table, which may break a rule, into an output of this size."""
+    if size < 6912:
+        return 1, None
+    form = store(table)
+    return (2, None) if load(form) is None else (0, form)
 
 
 def alone(tag, code):

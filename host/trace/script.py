@@ -2,14 +2,14 @@
 
 import zlib
 
-from paper import call, store
+from paper import call, call_by_value, load, store, store_into
 from responses import complete, read
 
 # the letter that sets an argument
 LETTERS = {
     "command": "c", "aaid": "a", "version": "v", "signature_algorithm": "s", "key_algorithm": "g", "metadata": "m",
     "verdict": "u", "display": "d", "mixed": "x", "key": "k", "public": "p", "nonce": "n", "hash": "h", "table": "t",
-    "response": "o", "table_output": "w",
+    "response": "o", "table_output": "w", "spoilt": "b",
 }
 ONE_BYTE = ("verdict", "display")
 COMPLETION_LETTERS = {"kind": "j", "draft": "q", "attestation": "y", "signature": "z", "certificate": "e", "output": "o"}
@@ -32,6 +32,7 @@ USUAL = {
     "hash": bytes(range(0xC0, 0xE0)),
     "response": 4096,
     "table_output": 6912,
+    "spoilt": b"",
 }
 
 
@@ -41,11 +42,33 @@ def written(data, size, whole):
     return line + (" " + data.hex().upper() if whole else "")
 
 
+def spoil(table, how):
+    """A loaded table as it is handed to a call by value: with a byte in how it breaks a rule that no table which loads can break."""
+    first = table[0] if how else None
+    if how == b"\1":
+        return table + [first] * (33 - len(table))
+    if how == b"\2":
+        return [{**first, "name": b""}] + table[1:]
+    if how == b"\3":
+        return [{**first, "name": bytes(129)}] + table[1:]
+    if how == b"\4":
+        return [first, {**table[1], "key": first["key"]}] + table[2:]
+    if how == b"\5":
+        return [{**r, "mixed": first["mixed"]} for r in table]
+    return table
+
+
 class Trace:
     """Each call is written into the script, and what it must print is worked out; names say what a call shows."""
 
     def __init__(self):
-        self.script, self.expected, self.set, self.table = [], [], {}, b""
+        self.script, self.expected, self.set, self.table = [], [], {"b": b""}, b""
+        self.change_form(0)
+
+    def change_form(self, every, ending=""):
+        """From here on each every-th command is run on a table by value, the others on its stored form: 0 is none, 1 is all. The ending is
+        put behind each name."""
+        self.every, self.ending, self.runs = every, ending, 0
 
     def say(self, text):
         self.script.append("# " + text)
@@ -59,7 +82,14 @@ class Trace:
         lent = {**USUAL, **lent, "command": command, "table": self.table}
         for what, letter in LETTERS.items():
             self.lend(letter, lent[what], 1 if what in ONE_BYTE else 2)
-        self.script.append(("? " if dump else "! ") + name)
+        self.runs += 1
+        by_value = self.every > 0 and self.runs % self.every == 0
+        name += self.ending
+        self.script.append(("!?", "&@")[by_value][dump] + " " + name)
+        return (self.tell_by_value if by_value else self.tell_stored)(name, lent, dump)
+
+    def tell_stored(self, name, lent, dump):
+        """What a command on the stored form must print."""
         code, kind, answer, left = call(lent)
         if code:
             sums = f"{zlib.adler32(FILL * lent['response'])} {zlib.adler32(FILL * lent['table_output'])}"
@@ -68,6 +98,24 @@ class Trace:
         line = f"{name}: {'draft' if kind else 'response'} {written(answer, lent['response'], True)}"
         self.expected.append(f"{line} table {written(left, lent['table_output'], dump)}")
         self.table = self.set["t"] = left
+        return answer
+
+    def tell_by_value(self, name, lent, dump):
+        """What a command by value must print: the table is loaded, and the one that comes back is stored, also after a refusal."""
+        table = load(lent["table"])
+        if table is None:
+            self.expected.append(f"{name}: load 2")
+            return
+        code, kind, answer, left = call_by_value(lent, spoil(table, lent["spoilt"]))
+        said = f"refusal {code} {zlib.adler32(FILL * lent['response'])}"
+        if not code:
+            said = f"{'draft' if kind else 'response'} {written(answer, lent['response'], True)}"
+        size = lent["table_output"]
+        refused, form = store_into(left, size)
+        kept = f"store {refused} {zlib.adler32(FILL * size)}" if refused else f"table {written(form, size, dump)}"
+        self.expected.append(f"{name}: by value, {said} {kept}")
+        if not code and not refused:
+            self.table = self.set["t"] = form
         return answer
 
     def lend(self, letter, value, size=2):

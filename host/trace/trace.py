@@ -11,7 +11,7 @@ from paper import (
     REGISTER, SIGN, TRANSACTION_CONTENT, USERNAME, USERNAME_AND_KEYHANDLE, USERVERIFY_TOKEN, load, store, tlv,
 )
 from readings import completions, readings
-from script import ANN, BO, CY, Trace
+from script import ANN, BO, CY, Trace, spoil
 
 
 def key(n):
@@ -295,9 +295,46 @@ def chain(t):
         assert t.tell_read(f"chain, read {kind}", response) == 0
 
 
+COMMANDS = (examples, get_info, registrations, signatures, removals, settings, refusals, lent, order, chain)
+
+
+def by_value(t):
+    """Every command once more, so that both forms answer for the same words of document 01."""
+    t.change_form(1)
+    t.say("By value: the table output is no output of the call, and what is said of it is said by the store")
+    for part in COMMANDS:
+        part(t)
+
+
+def spoilt(t):
+    """What no stored form can show: values that break a rule, handed back as they came, so that storing them is refused too."""
+    t.say("By value: tables that break a rule")
+    info = command(GETINFO)
+    for table in ([record(n, bytes([n // 5]) * 32) for n in range(9)], [record(n, bytes([n // 8]) * 32) for n in range(32)]):
+        t.give(table)
+        for number, what in enumerate(("said to be 33", "an empty name", "a name of 129", "a KeyID twice", "one mixed token"), 1):
+            how, name = bytes([number]), f"{len(table)} records, {what}"
+            assert load(store(spoil(table, how))) is None
+            t.run(f"{name}, info", info, spoilt=how)
+            t.run(f"{name}, sign", sign(), spoilt=how, mixed=bytes(32))
+            t.run(f"{name}, refusals 1 and 2: 1", info, spoilt=how, response=4095)
+            t.run(f"{name}, refusals 2 and 3: 2", b"", spoilt=how)
+            t.run(f"{name}, refusals 2 and 4: 2", info, spoilt=how, aaid=b"")
+            t.run(f"{name}, storing refused by 1 before 2", info, spoilt=how, table_output=6911)
+        t.run(f"{len(table)} records, their stored form is as it was", info, dump=True)
+
+
+def mixed(t):
+    """One list of calls in both forms: each is handed the table that the last one left."""
+    t.change_form(3, ", mixed")
+    t.say("Each third call by value, on the table that the last one left, whichever its form")
+    registrations(t)
+    signatures(t)
+
+
 def main():
     t = Trace()
-    for part in (examples, get_info, registrations, signatures, removals, settings, refusals, lent, order, chain, completions, readings):
+    for part in COMMANDS + (completions, readings, by_value, spoilt, mixed):
         part(t)
     crate = os.path.join(os.path.dirname(os.path.abspath(__file__)), "..", "..", "crates", "trace")
     for name, lines in (("stdin", t.script), ("stdout", t.expected)):

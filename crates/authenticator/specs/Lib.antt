@@ -1,2 +1,2 @@
--- What the code gives back, in the words of `model`.
-pub mod Answers
+-- What a call says and leaves, in the words of `model`.
+pub mod Outcomes

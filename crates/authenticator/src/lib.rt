@@ -1,6 +1,3 @@
-// A call: refused, or decided by one of the five commands on the stored table where it lies. What it changes is made once, at the end: in the
-// table by value, or while the stored form of the table left is written.
-pub mod answers;
-pub mod left;
-pub mod run;
-pub mod serve;
+// A call on a stored table, the whole way: refused, or its command parsed, decided, its reply written and the table that it leaves written.
+pub mod call;
+pub mod outcome;

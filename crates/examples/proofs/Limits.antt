@@ -18,27 +18,27 @@ use Rattle.model.proofs.Computing.{computing, each-form}
 use Rattle.model.proofs.Witness.{zeros, lending}
 use Rattle.examples.proofs.Examples.{lent, stands}
 
--- a row of a table: what is computed, and what document 01 says
-pub record Row : Type 0 where
+-- a line of a table: what is computed, and what document 01 says
+pub record Line : Type 0 where
   pub found : List ℕ
   pub expected : List ℕ
 
 infix 70 _gives_
-abbrev pub _gives_ : List ℕ → List ℕ → Row
+abbrev pub _gives_ : List ℕ → List ℕ → Line
 _gives_ a b = record { found = a; expected = b }
 
-abbrev pub Holds : List Row → Type 0
-Holds rows = map (λ r. r .found) rows ≡ map (λ r. r .expected) rows
+abbrev pub Holds : List Line → Type 0
+Holds lines = map (λ r. r .found) lines ≡ map (λ r. r .expected) lines
 
--- one test of all rows is computed in a quarter of the time that it takes to compare the two lists
-abbrev pub agree : List Row → Bool
-agree rows = all (λ r. eqBytes (r .found) (r .expected)) rows
+-- one test of all lines is computed in a quarter of the time that it takes to compare the two lists
+abbrev pub agree : List Line → Bool
+agree lines = all (λ r. eqBytes (r .found) (r .expected)) lines
 
-pub holds : (rows : List Row) → agree rows ≡ true → Holds rows
+pub holds : (lines : List Line) → agree lines ≡ true → Holds lines
 holds [] e = refl
-holds (r ∷ rows) e =
-    let p : r .found ≡ r .expected = eqBytes-eq (r .found) (r .expected) (and-left _ (agree rows) e) in
-    let q : Holds rows = holds rows (and-right (eqBytes (r .found) (r .expected)) (agree rows) e) in
+holds (r ∷ lines) e =
+    let p : r .found ≡ r .expected = eqBytes-eq (r .found) (r .expected) (and-left _ (agree lines) e) in
+    let q : Holds lines = holds lines (and-right (eqBytes (r .found) (r .expected)) (agree lines) e) in
     cc
 
 -- what a call tells: 100 + n for refusal n, 200 for a draft, 300 for a response that holds more than a status, else the status
@@ -146,7 +146,7 @@ abbrev freely : List ℕ
 freely = 0 ∷ 1 ∷ 2 ∷ []
 
 -- of 0, 1 and 2 times in each of the five
-abbrev often : Tlv → (inGetInfo inRegister inSign inDeregister inOpenSettings : List ℕ) → List Row
+abbrev often : Tlv → (inGetInfo inRegister inSign inDeregister inOpenSettings : List ℕ) → List Line
 often x g r s d o =
     times x getInfo freely gives g
     ∷ times x register freely gives r
@@ -155,10 +155,10 @@ often x g r s d o =
     ∷ times x openSettings freely gives o
     ∷ []
 
-abbrev everywhere : Tlv → List ℕ → List Row
+abbrev everywhere : Tlv → List ℕ → List Line
 everywhere x ns = often x ns ns ns ns ns
 
-abbrev howOften : List Row
+abbrev howOften : List Line
 howOften =
     often index never once once once once
     ++ often (tlv 0x280D (1 ∷ [])) never [] [] [] []
@@ -201,7 +201,7 @@ how-often = holds howOften refl
 abbrev lengths : Command → ℕ → List ℕ → List ℕ
 lengths c t ns = select (λ n. accepted (written (with c 1 (tlv t (zeros n))))) ns
 
-abbrev howLong : List Row
+abbrev howLong : List Line
 howLong =
     lengths register 0x280D (0 ∷ 1 ∷ 2 ∷ []) gives (1 ∷ [])
     ∷ lengths register 0x2804 (0 ∷ 1 ∷ 512 ∷ 513 ∷ []) gives (1 ∷ 512 ∷ [])
@@ -253,7 +253,7 @@ tellAll cs = map (λ c. tells (written c)) cs
 abbrev stating : Command → List ℕ → List ℕ → List ℕ
 stating c more ns = select (λ n. accepted (header (c .tag) n ++ (bytes (c .children) ++ more))) ns
 
-abbrev wholeCommands : List Row
+abbrev wholeCommands : List Line
 wholeCommands =
     tellAll mandatory gives (300 ∷ 200 ∷ 200 ∷ 0x00 ∷ 0x06 ∷ [])
     ∷ tellAll listed gives (300 ∷ 200 ∷ 200 ∷ 0x00 ∷ 0x06 ∷ [])
@@ -297,7 +297,7 @@ lends a v s k m verdict display x i p n h =
     map (λ c. call itself 4096 none standing (lentOf a v s k m verdict display x i p n h) (written c))
     (getInfo ∷ register ∷ with sign 1 (tlv 0x2810 (zeros 1)) ∷ deregister ∷ openSettings ∷ [])
 
-abbrev lentResults : List Row
+abbrev lentResults : List Line
 lentResults =
     -- all at their least; the greatest lengths
     lends 9 0 0 0 15 0 0 32 32 1 8 32 gives (300 ∷ 200 ∷ 200 ∷ 0x00 ∷ 0x06 ∷ [])
@@ -355,7 +355,7 @@ turn f n m t a =
     map (λ c. call f n m t (lentOf a 0 0 0 15 0 0 32 32 1 8 32) (written c))
     (getInfo ∷ command 0x3405 [] ∷ adding getInfo (index ∷ []) ∷ [])
 
-abbrev turns : Form → List Row
+abbrev turns : Form → List Line
 turns f =
     turn f 4096 none standing 9 gives (300 ∷ 103 ∷ 0x08 ∷ [])
     ∷ turn f 4096 (some 6912) standing 9 gives (300 ∷ 103 ∷ 0x08 ∷ [])

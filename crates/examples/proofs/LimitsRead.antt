@@ -19,7 +19,7 @@ use Rattle.model.proofs.Basics.{numbersFrom}
 use Rattle.model.proofs.Computing.{computing, each-form}
 use Rattle.model.proofs.Witness.{zeros}
 use Rattle.examples.proofs.Examples.{info, annThenBoListed, krd, signedDataOf}
-use Rattle.examples.proofs.Limits.{Row, _gives_, Holds, holds}
+use Rattle.examples.proofs.Limits.{Line, _gives_, Holds, holds}
 
 -- to unfold `reading` is to unfold all that a completion and the reader compute with
 unfoldable reading : Unit {0}
@@ -74,7 +74,7 @@ makes kind d type c =
     numbers (λ r. r)
     (complete (record { kind = kind; draft = d; type = type; signature = 0x11 ∷ 0x12 ∷ 0x13 ∷ []; certificate = c; output = 4096 }))
 
-abbrev completions : List Row
+abbrev completions : List Line
 completions =
     makes 0 krd 0x3E07 (0x21 ∷ 0x22 ∷ []) gives registered
     ∷ makes 1 signedData 0x3E07 (0x21 ∷ 0x22 ∷ []) gives signed
@@ -137,7 +137,7 @@ readable s = not (eqb (length (read s)) 1)
 abbrev alone : ℕ → List ℕ → List ℕ
 alone t v = bytes (tlv t (bytes (tlv 0x2808 v ∷ [])) ∷ [])
 
-abbrev readings : List Row
+abbrev readings : List Line
 readings =
     read (alone 0x3604 (0x00 ∷ 0x00 ∷ [])) gives (0 ∷ 0 ∷ 0x3604 ∷ 0x00 ∷ 0x2808 ∷ 8 ∷ 2 ∷ [])
     ∷ read (alone 0x3602 (0x10 ∷ 0x00 ∷ [])) gives (0 ∷ 0 ∷ 0x3602 ∷ 0x10 ∷ 0x2808 ∷ 8 ∷ 2 ∷ [])
@@ -195,7 +195,7 @@ free s ns = select (λ i. readable (higher i s)) ns
 abbrev ending : List ℕ → List ℕ → List ℕ
 ending s ns = select (λ n. readable (take n (s ++ zeros 1))) ns
 
-abbrev refusals : List Row
+abbrev refusals : List Line
 refusals =
     statuses 0x3601 gives (0x08 ∷ [])
     ∷ statuses 0x3602 gives (0x01 ∷ 0x02 ∷ 0x03 ∷ 0x05 ∷ 0x07 ∷ 0x08 ∷ 0x0E ∷ 0x0F ∷ 0x10 ∷ [])
@@ -214,7 +214,7 @@ pub reader-refusals : Holds refusals
 unfolding reading
 reader-refusals = holds refusals refl
 
-abbrev changes : List Row
+abbrev changes : List Line
 changes =
     free (alone 0x3604 (0x00 ∷ 0x00 ∷ [])) (numbersFrom 0 10) gives []
     ∷ free info (numbersFrom 0 94) gives (numbersFrom 28 9 ++ numbersFrom 41 15)
@@ -275,7 +275,7 @@ abbrev crowd : ℕ → ℕ → Table
 crowd d zero = []
 crowd d (suc n) = record { keyId = replicate 32 n; mixed = replicate 32 (n / d); name = 0x41 ∷ []; count = 7 } ∷ crowd d n
 
-abbrev storedForms : List Row
+abbrev storedForms : List Line
 storedForms =
     decodes (key 32 ∷ mixed 32 ∷ name 1 ∷ count 4 ∷ []) gives (1 ∷ [])
     ∷ decodes (key 32 ∷ mixed 32 ∷ name 128 ∷ count 4 ∷ []) gives (1 ∷ [])
@@ -309,7 +309,7 @@ unfolding computing
 stored-forms = holds storedForms refl
 
 -- in both forms: 33 records, 9 with one mixed token, a KeyID twice
-abbrev tables : Form → List Row
+abbrev tables : Form → List Line
 tables f =
     records (tableOf (handed f (crowd 8 33))) gives (102 ∷ [])
     ∷ records (tableOf (handed f (crowd 9 9))) gives (102 ∷ [])

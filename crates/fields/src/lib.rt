@@ -5,7 +5,7 @@ pub mod tags;
 use tlv::bytes::same;
 use tlv::heads::Head;
 use tlv::heads::Span;
-use tlv::walk::header;
+use tlv::walk::tlv_at;
 ghost use mathlib.Core.Path.{_≡_};
 ghost use mathlib.Core.List.{map};
 ghost use lib.ListN.{getD};
@@ -264,7 +264,7 @@ pub enum Found {
 pub fn field_at(s: &[u8], at: usize, f: Field) -> Found
     ensures { λ r. ⌜ r ≡ fieldAt (named f) (now (s .entry)) at ⌝ }
 {
-    let h = header(s, at);
+    let h = tlv_at(s, at);
     match h {
         Head::Tlv { tag, start, end } => {
             let rule = rule_of(f);

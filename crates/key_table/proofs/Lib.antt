@@ -1,5 +1,7 @@
--- The laws of tables by value: their view, the rules of a record, and changes.
+-- The laws of tables by value: their view as records, the rules, spare bytes, the stored form both ways, and calls.
 pub mod ViewLaws
 pub mod RuleLaws
 pub mod TidyLaws
-pub mod ChangeLaws
+pub mod StoreLaws
+pub mod LoadLaws
+pub mod RunLaws

@@ -1,4 +1,4 @@
--- The record rules of a row and of a table by value: what the arrays' lengths leave to test.
+-- The record rules of a record and of a table by value: what the arrays' lengths leave to test.
 -- Assumes nothing.
 use mathlib.Core.Path.{_≡_, refl, ap, _∙_}
 use mathlib.Core.Bool.{Bool, true, false, _&&_, and-true}
@@ -10,18 +10,18 @@ use lib.ListN.{length, take, drop, getD, drop-of-length-le}
 use borrow.Author.Tests.{leb-true, le-leb, lt-leb}
 use Rattle.model.specs.Lists.{all}
 use Rattle.model.specs.Tlv.{fits, keyId, mixedToken, username}
-use Rattle.model.specs.Records as model
 use Rattle.model.specs.Records.{recordOk, maxCount, maxRecords}
 use Rattle.model.proofs.Basics.{and-left, and-right}
 use Rattle.model.proofs.LayoutLaws.{size-fits}
 use Rattle.model.proofs.LayoutWritten.{member, all-member}
 use Rattle.model.proofs.Rules.{record-rules}
-use Rattle.columns.specs.Firsts.{firsts}
-use Rattle.columns.proofs.FirstLaws.{firsts-take, length-firsts}
-use Rattle.key_table.specs.Views.{viewRecord, viewTable, noRow, noRecord}
+use Rattle.tlv.specs.Firsts.{firsts}
+use Rattle.tlv.proofs.FirstLaws.{firsts-take, length-firsts}
+use Rattle.stored_table.specs.Stored.{noRecord}
+use Rattle.key_table.specs.Views.{viewRecord, viewTable, noValue}
 use Rattle.key_table.specs.declared.records.Record.{Record}
 use Rattle.key_table.specs.declared.records.Table.{Table}
-use Rattle.key_table.proofs.ViewLaws.{length-view, row-at}
+use Rattle.key_table.proofs.ViewLaws.{length-view, value-at}
 
 -- ---- a test of each element, from a place on
 
@@ -39,7 +39,7 @@ long-name : (v : List ℕ) → 128 < length v → fits username v ≡ false
 unfolding fits
 long-name v h = let k : 1 ≤ length v = omega arith in simp (le-leb _ _ k, lt-leb _ _ h)
 
--- a row whose arrays are as long, and whose counter as small, as their types say
+-- a record whose arrays are as long, and whose counter as small, as their types say
 pub record Typed (r : Record) : Type 0 where
   pub key-id : length (r .«key_id») ≡ 32
   pub mixed : length (r .mixed) ≡ 32
@@ -63,17 +63,17 @@ module _ (r : Record) (typed : Typed r) where
 
 -- ---- a table
 
--- what the rules of its records say of a table by value: the rows that it has, and a name's length
+-- what the rules of its records say of a table by value: how many it has, and a name's length
 module _ (t : Table) (ok : (leb (length (viewTable t)) maxRecords && all recordOk (viewTable t)) ≡ true) where
-  pub few-rows : t .len ≤ 32
-  few-rows =
+  pub few-records : t .len ≤ 32
+  few-records =
       let few : length (viewTable t) ≤ maxRecords = leb-true _ _ (and-left (leb (length (viewTable t)) maxRecords) _ ok) in
       omega (arith, length-view t)
 
-  pub short-name : t .len ≤ length (t .rows) → (i : ℕ) → i < t .len → getD (t .rows) i noRow .«name_len» ≤ 128
+  pub short-name : t .len ≤ length (t .records) → (i : ℕ) → i < t .len → getD (t .records) i noValue .«name_len» ≤ 128
   short-name fits i h =
-      let r : Record = getD (t .rows) i noRow in
+      let r : Record = getD (t .records) i noValue in
       let k : i < length (viewTable t) = rw (length-view t) h in
-      let m : recordOk (viewRecord r) ≡ true = rw (row-at t fits i h) at
+      let m : recordOk (viewRecord r) ≡ true = rw (value-at t fits i h) at
       (all-member recordOk (member i noRecord (viewTable t) k) (and-right (leb (length (viewTable t)) maxRecords) _ ok)) in
       omega (arith, record-rules (viewRecord r) m .name-most, length-firsts 0 (r .«name_len») (r .name))

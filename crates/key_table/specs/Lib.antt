@@ -1,3 +1,4 @@
 -- Tables by value in the words of `model`.
 pub mod Views
-pub mod Changes
+pub mod Forms
+pub mod Runs

@@ -2,8 +2,8 @@ use tlv::writer::put_bytes;
 ghost use mathlib.Core.Path.{_≡_};
 ghost use Prim.Native.Nat.{_≤_};
 ghost use lib.ListN.{length};
-ghost use Rattle.columns.specs.Firsts.{firsts};
-ghost use Rattle.key_table.specs.Views.{rowOf, spareRow};
+ghost use Rattle.tlv.specs.Firsts.{firsts};
+ghost use Rattle.key_table.specs.Views.{valueOf, spareRecord, noTable};
 
 // A record. The name is the first name_len bytes of its array.
 pub struct Record {
@@ -14,9 +14,9 @@ pub struct Record {
     pub count: u32,
 }
 
-// The records of a table, oldest first, are the first len rows.
+// A table: its records, oldest first, are the first len of these.
 pub struct Table {
-    pub rows: [Record; 32],
+    pub records: [Record; 32],
     pub len: usize,
 }
 
@@ -40,10 +40,10 @@ fn copy_name(s: &[u8]) -> [u8; 128]
     k
 }
 
-// The row of a record of these fields.
+// The record of these fields.
 pub fn record_of(key_id: &[u8], mixed: &[u8], name: &[u8], count: u32) -> Record
     requires { ⌜ (length (now «key_id») ≡ 32) × (length (now mixed) ≡ 32) × (length (now name) ≤ 128) ⌝ }
-    ensures { λ r. ⌜ r ≡ rowOf (now («key_id» .entry)) (now (mixed .entry)) (now (name .entry)) count ⌝ }
+    ensures { λ r. ⌜ r ≡ valueOf (now («key_id» .entry)) (now (mixed .entry)) (now (name .entry)) count ⌝ }
 {
     let k = copy32(key_id);
     let m = copy32(mixed);
@@ -57,9 +57,9 @@ pub fn record_of(key_id: &[u8], mixed: &[u8], name: &[u8], count: u32) -> Record
     }
 }
 
-// A row that holds no record: all zeros.
-pub fn spare() -> Record
-    ensures { λ r. ⌜ r ≡ spareRow ⌝ }
+// What stands past the last record: all zeros.
+fn spare() -> Record
+    ensures { λ r. ⌜ r ≡ spareRecord ⌝ }
 {
     Record {
         key_id: [0u8; 32],
@@ -67,5 +67,16 @@ pub fn spare() -> Record
         name: [0u8; 128],
         name_len: 0,
         count: 0,
+    }
+}
+
+// The empty table.
+pub fn no_table() -> Table
+    ensures { λ r. ⌜ r ≡ noTable ⌝ }
+{
+    let empty = spare();
+    Table {
+        records: [empty; 32],
+        len: 0,
     }
 }

@@ -2,6 +2,7 @@ use crate::records::Record;
 use crate::records::Table;
 use fields::Field;
 use fields::fits;
+use stored_table::records::MAX_RECORDS;
 ghost use mathlib.Core.Path.{_≡_};
 ghost use Prim.Native.Nat.{_≤_};
 ghost use mathlib.Core.Bool.{_&&_};
@@ -12,12 +13,6 @@ ghost use Rattle.model.specs.Tlv.{fits, username};
 ghost use Rattle.model.specs.Records.{recordOk, maxRecords};
 ghost use Rattle.key_table.specs.Views.{viewRecord, viewTable};
 
-// "The table has at most 32 records".
-pub const MAX_RECORDS: usize = 32;
-
-// ".. at most 8 with one mixed token".
-pub const MAX_OWN: usize = 8;
-
 // Whether the first n bytes are a name.
 fn is_name(v: &[u8], n: usize) -> bool
     requires { ⌜ n ≤ length (now v) ⌝ }
@@ -26,7 +21,7 @@ fn is_name(v: &[u8], n: usize) -> bool
     fits(Field::Username, &v[..n])
 }
 
-// The same of an array, whose length is its type's.
+// Whether the first n bytes of an array are a name: its length is its type's.
 fn is_name_in(v: &[u8; 128], n: usize) -> bool
     requires { ⌜ n ≤ 128 ⌝ }
     ensures { λ r. ⌜ r ≡ fits username (take n (now (v .entry))) ⌝ }
@@ -35,7 +30,7 @@ fn is_name_in(v: &[u8; 128], n: usize) -> bool
 }
 
 // Whether a record obeys the rules: the other lengths and the counter's width are those of its types.
-pub fn record_ok(r: Record) -> bool
+fn record_ok(r: Record) -> bool
     ensures { λ b. ⌜ b ≡ recordOk (viewRecord r) ⌝ }
 {
     let n = r.name_len;
@@ -47,14 +42,14 @@ pub fn record_ok(r: Record) -> bool
 }
 
 // Whether each record obeys them.
-fn records_ok(t: Table) -> bool
+fn each_ok(t: Table) -> bool
     requires { ⌜ t .len ≤ 32 ⌝ }
     ensures { λ r. ⌜ r ≡ all recordOk (viewTable t) ⌝ }
 {
     let n = t.len;
     let mut i = 0;
     while i < n {
-        let r = t.rows[i];
+        let r = t.records[i];
         if !record_ok(r) {
             return false;
         }
@@ -64,12 +59,12 @@ fn records_ok(t: Table) -> bool
 }
 
 // Whether there are at most 32 records, each of which obeys its rules. That no KeyID stands there twice, and no mixed token too often, is found
-// when the table is stored.
-pub fn rows_ok(t: Table) -> bool
+// when the table's stored form is read.
+pub fn records_ok(t: Table) -> bool
     ensures { λ r. ⌜ r ≡ (leb (length (viewTable t)) maxRecords && all recordOk (viewTable t)) ⌝ }
 {
     if MAX_RECORDS < t.len {
         return false;
     }
-    records_ok(t)
+    each_ok(t)
 }

@@ -2,16 +2,18 @@
 use Prim.Native.Nat.{ℕ}
 use mathlib.Core.Bool.{true, false}
 use Rattle.model.specs.Layouts.{Layout, end, field, group}
-use Rattle.model.specs.Commands.{keyRegistrationData, signedData, nameRows}
+use Rattle.model.specs.Records.{storedRecord}
+use Rattle.model.specs.Commands.{keyRegistrationData, signedData, namePairs}
 use Rattle.layouts.specs.declared.Group.{Group}
-use Rattle.layouts.specs.declared.Group.the-variants.{Krd, SignedData, SignedContent, Pair}
+use Rattle.layouts.specs.declared.Group.the-variants.{Krd, SignedData, SignedContent, Pair, Record}
 
 -- the group, with nothing after it
 abbrev pub layoutOf : Group → Layout
 layoutOf Krd = keyRegistrationData end
 layoutOf SignedData = signedData false end
 layoutOf SignedContent = signedData true end
-layoutOf Pair = nameRows 1
+layoutOf Pair = namePairs 1
+layoutOf Record = storedRecord
 
 -- the tag of a layout that is one group
 abbrev tagIn : Layout → ℕ

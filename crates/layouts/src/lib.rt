@@ -5,7 +5,7 @@ use fields::Found;
 use fields::field_at;
 use fields::tags;
 use tlv::heads::Head;
-use tlv::walk::header;
+use tlv::walk::tlv_at;
 ghost use mathlib.Core.Path.{_≡_};
 ghost use mathlib.Core.List.{[], _∷_};
 ghost use Rattle.model.specs.Tlv.{aaid, nonce, challengeHash, keyId, newCount};
@@ -13,7 +13,7 @@ ghost use Rattle.model.specs.Layouts.{fields, reads};
 ghost use Rattle.fields.specs.Fields.{named};
 ghost use Rattle.layouts.specs.Places.{afterField, inGroup, afterGroup};
 ghost use Rattle.layouts.specs.Groups.{groupTag, groupInside};
-ghost use Rattle.layouts.specs.declared.Group.the-variants.{Krd, Pair};
+ghost use Rattle.layouts.specs.declared.Group.the-variants.{Krd, Pair, Record};
 
 // The place after a field.
 pub fn after(s: &[u8], at: usize, f: Field) -> usize
@@ -30,7 +30,7 @@ pub fn after(s: &[u8], at: usize, f: Field) -> usize
 pub fn enter(s: &[u8], at: usize, tag: usize) -> usize
     ensures { λ r. ⌜ r ≡ inGroup tag (now (s .entry)) at ⌝ }
 {
-    let h = header(s, at);
+    let h = tlv_at(s, at);
     match h {
         Head::Tlv {
             tag: found,
@@ -50,12 +50,14 @@ pub fn enter(s: &[u8], at: usize, tag: usize) -> usize
     }
 }
 
-// A TLV that holds fields and may be followed by something: KRD, SIGNED_DATA without and with content, USERNAME_AND_KEYHANDLE in a list.
+// A TLV that holds fields and may be followed by something: KRD, SIGNED_DATA without and with content, USERNAME_AND_KEYHANDLE in a list of names
+// and as a stored record.
 pub enum Group {
     Krd,
     SignedData,
     SignedContent,
     Pair,
+    Record,
 }
 
 // A group's tag.
@@ -67,6 +69,7 @@ fn group_tag(g: Group) -> usize
         Group::SignedData => tags::SIGNED_DATA,
         Group::SignedContent => tags::SIGNED_DATA,
         Group::Pair => tags::USERNAME_AND_KEYHANDLE,
+        Group::Record => tags::USERNAME_AND_KEYHANDLE,
     }
 }
 
@@ -106,6 +109,17 @@ fn is_pair(s: &[u8]) -> bool
     end == s.len()
 }
 
+// Whether a stretch is the children of a stored record.
+fn is_record(s: &[u8]) -> bool
+    ensures { λ r. ⌜ r ≡ reads (groupInside Record) (now (s .entry)) ⌝ }
+{
+    let a1 = after(s, 0, Field::KeyId);
+    let a2 = after(s, a1, Field::MixedToken);
+    let a3 = after(s, a2, Field::Username);
+    let end = after(s, a3, Field::Counter);
+    end == s.len()
+}
+
 // Whether a stretch is what a group holds.
 fn is_inside(s: &[u8], g: Group) -> bool
     ensures { λ r. ⌜ r ≡ reads (groupInside g) (now (s .entry)) ⌝ }
@@ -115,6 +129,7 @@ fn is_inside(s: &[u8], g: Group) -> bool
         Group::SignedData => is_signed_data(s, Field::SignedInfo, Field::NoContentHash),
         Group::SignedContent => is_signed_data(s, Field::ContentInfo, Field::ContentHash),
         Group::Pair => is_pair(s),
+        Group::Record => is_record(s),
     }
 }
 
@@ -122,7 +137,7 @@ fn is_inside(s: &[u8], g: Group) -> bool
 pub fn after_group(s: &[u8], at: usize, g: Group) -> usize
     ensures { λ r. ⌜ r ≡ afterGroup (groupTag g) (groupInside g) (now (s .entry)) at ⌝ }
 {
-    let h = header(s, at);
+    let h = tlv_at(s, at);
     match h {
         Head::Tlv { tag, start, end } => {
             if tag != group_tag(g) {

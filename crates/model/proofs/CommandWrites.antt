@@ -12,7 +12,7 @@ use Rattle.model.specs.Lists.{all, any, select, empty, eqBytes, among, d
 use Rattle.model.specs.Tlv.{le, fits, aaid, metadata, challengeHash, keyId, publicKey, username, nonce, contentHash, keyHandle, newCount, Kind, getInfo, register, sign, deregister, openSettings, kinds, broken, fieldsIn, fieldIn, responseTag}
 use Rattle.model.specs.Layouts.{Layout, end, size}
 use Rattle.model.specs.Records.{Record, Table, recordOk, hasMixed, own, keyIds, maxCount, maxOwn}
-use Rattle.model.specs.Commands.{statuses, verdictStatuses, displayStatuses, bytesOf, Lent, profileOk, lentOk, Call, mixedOf, Given, Check, judge, gave, Answer, response, draft, Change, keep, Decision, Effect, statusOnly, only, info, infoFields, infoResponse, decideGetInfo, keyRegistrationData, registerFields, registerDraft, registerChecks, decideRegister, chosen, nameRows, nameList, nameFields, nameResponse, signedData, hasContent, signFields, signDraft, signOne, signChosen, decideSign, decideDeregister, decideOpenSettings, decide, perform, kind, outcome, leastOutput}
+use Rattle.model.specs.Commands.{statuses, verdictStatuses, displayStatuses, bytesOf, Lent, profileOk, lentOk, Call, mixedOf, Given, Check, judge, gave, Answer, response, draft, Change, keep, Decision, Effect, statusOnly, only, info, infoFields, infoResponse, decideGetInfo, keyRegistrationData, registerFields, registerDraft, registerChecks, decideRegister, chosen, namePairs, nameList, nameFields, nameResponse, signedData, hasContent, signFields, signDraft, signOne, signChosen, decideSign, decideDeregister, decideOpenSettings, decide, perform, kind, outcome, leastOutput}
 use Rattle.model.specs.Complete.{draftsOf, isDraft}
 use Rattle.model.specs.Reader.{responses, isHandle, isSigned}
 use Rattle.model.proofs.Basics.{split, clash, and-left, and-right, both, eqBytes-refl, length-select, Passed, Each, numbersFrom}
@@ -200,7 +200,7 @@ counted (suc n) a k h b =
     split (eqb k a) (λ e. List·Memᴰ·head (eqb-true k a e))
     (λ e. let d = eqb-false k a e in List·Memᴰ·tail (counted n (suc a) k (omega arith) (omega arith)))
 
-names-fit : (rs : Table) → all recordOk rs ≡ true → fitAll (nameRows (length rs)) (nameFields rs) ≡ true
+names-fit : (rs : Table) → all recordOk rs ≡ true → fitAll (namePairs (length rs)) (nameFields rs) ≡ true
 unfolding fitAll recordOk fits
 names-fit [] e = refl
 names-fit (r ∷ rs) e =
@@ -209,19 +209,19 @@ names-fit (r ∷ rs) e =
     let k : fits keyId (r .keyId) ≡ true = search (and-left, and-right) in
     both (both n (both k refl)) (names-fit rs (and-right (recordOk r) _ e))
 
-names-number : (rs : Table) → length (nameFields rs) ≡ size (nameRows (length rs))
+names-number : (rs : Table) → length (nameFields rs) ≡ size (namePairs (length rs))
 names-number [] = refl
 names-number (r ∷ rs) = omega (arith, names-number rs)
 
 names-keys : (at : ℕ) (rs : Table)
-    → map (λ v. v .value) (select (λ v. isHandle (v .tag)) (leaves at (nameRows (length rs)) (nameFields rs))) ≡ keyIds rs
+    → map (λ v. v .value) (select (λ v. isHandle (v .tag)) (leaves at (namePairs (length rs)) (nameFields rs))) ≡ keyIds rs
 unfolding nodes
 names-keys at [] = refl
 names-keys at (r ∷ rs) = ap (λ (ks : List (List ℕ)). r .keyId ∷ ks) (names-keys _ rs)
 
-rows-unsigned : (n : ℕ) → lacks isSigned (nameRows n) ≡ true
-rows-unsigned zero = refl
-rows-unsigned (suc n) = rows-unsigned n
+pairs-unsigned : (n : ℕ) → lacks isSigned (namePairs n) ≡ true
+pairs-unsigned zero = refl
+pairs-unsigned (suc n) = pairs-unsigned n
 
 names-good : (q : List ℕ) (l : Lent) (rs : Table) → Tests rs → 2 ≤ length rs → length rs ≤ maxOwn
     → Good q l rs sign (response (nameResponse rs))
@@ -238,9 +238,9 @@ names-good q l rs t h m =
             number = omega (arith, names-number rs);
             written = refl;
           };
-      keys = rw (append-nil (nodes 10 (nameRows (length rs)) (nameFields rs)), names-keys 10 rs) (t .once);
+      keys = rw (append-nil (nodes 10 (namePairs (length rs)) (nameFields rs)), names-keys 10 rs) (t .once);
       tag = refl;
-      unsigned = both (rows-unsigned (length rs)) refl;
+      unsigned = both (pairs-unsigned (length rs)) refl;
     }
 
 signed-listed : (b : Bool) → List·Memᴰ (signedData b end) (drafts sign)

@@ -12,7 +12,7 @@ use Rattle.model.specs.Lists.{select, empty, eqBytes, among, all}
 use Rattle.model.specs.Tlv.{le, Tlv, tlv, bytes, challengeHash, keyHandle, transactionContent, sign, broken, fieldsIn, fieldIn}
 use Rattle.model.specs.Layouts.{fill, write}
 use Rattle.model.specs.Records.{Record, Table, own, keyIds, hasMixed, tableOk}
-use Rattle.model.specs.Commands.{Lent, keep, setCount, Call, mixedOf, judge, response, draft, isKey, withCount, apply, only, displayStatus, chosen, nameRows, nameFields, nameResponse, hasContent, signDraft, signOne, signChosen, decideSign, decide, perform}
+use Rattle.model.specs.Commands.{Lent, keep, setCount, Call, mixedOf, judge, response, draft, isKey, withCount, apply, only, displayStatus, chosen, namePairs, nameFields, nameResponse, hasContent, signDraft, signOne, signChosen, decideSign, decide, perform}
 use Rattle.model.proofs.Basics.{split, and-left, and-right, eqBytes-eq, eqBytes-sym, eqBytes-refl, or-left, or-right, both, select-same, select-both}
 use Rattle.model.proofs.Edges.{says, carried, Stands, stands, alone}
 
@@ -59,7 +59,7 @@ unknown a h b (r ∷ mine) e =
 abbrev pub pair : Record → Tlv
 pair r = tlv 0x3802 (bytes (tlv 0x2806 (r .name) ∷ tlv 0x2801 (r .keyId) ∷ []))
 
-names-filled : (rs : Table) → fill (nameRows (length rs)) (nameFields rs) ≡ map pair rs
+names-filled : (rs : Table) → fill (namePairs (length rs)) (nameFields rs) ≡ map pair rs
 unfolding fill
 names-filled [] = refl
 names-filled (r ∷ rs) = ap (λ ts. pair r ∷ ts) (names-filled rs)

@@ -11,7 +11,7 @@ use Rattle.model.specs.Lists.{any, all, select, eqBytes, distinct}
 use Rattle.model.specs.Tlv.{Bytes, num, le, tlv, bytes, Kind, getInfo, register, sign, deregister, openSettings, Field, statusAmong, ok, apiVersion, index, aaid, metadata, contentType, assertionScheme, fullType, surrogateType, signature, certificate, full, surrogate, textPlain, uafV1Tlv, ruleOf, tagOf, fits, tlvsPast, childrenOk, children, broken, responseTag, assertionTag, regAssertionTag, authAssertionTag}
 use Rattle.model.specs.Layouts.{Layout, end, field, group, fields, size, fill, write, reads}
 use Rattle.model.specs.Records.{Table, hasMixed, keyIds, recordOk, own, tableOk}
-use Rattle.model.specs.Commands.{statuses, Decision, Lent, response, gave, statusOnly, info, nameRows, nameList, nameFields, nameResponse, keyRegistrationData, signedData, judge, profileOk, lentOk, infoResponse, decideGetInfo, decide, perform, leastOutput}
+use Rattle.model.specs.Commands.{statuses, Decision, Lent, response, gave, statusOnly, info, namePairs, nameList, nameFields, nameResponse, keyRegistrationData, signedData, judge, profileOk, lentOk, infoResponse, decideGetInfo, decide, perform, leastOutput}
 use Rattle.model.specs.Complete.{Completion, completionOk, signatureOf, attestation, completed, complete}
 use Rattle.model.specs.Reader.{listLengths, asserted, registered, signed, responses, listedKeys, isResponse, isHandle}
 use Rattle.model.proofs.Basics.{and-left, and-right, both, eqBytes-eq, select-all, length-select, Each}
@@ -202,12 +202,12 @@ length-named : (n : ℕ) (vs : List (List ℕ)) → length (named n vs) ≡ n
 length-named zero vs = refl
 length-named (suc n) vs = ap suc (length-named n (drop 2 vs))
 
-fill-named : (n : ℕ) (vs : List (List ℕ)) → fill (nameRows n) (nameFields (named n vs)) ≡ fill (nameRows n) vs
+fill-named : (n : ℕ) (vs : List (List ℕ)) → fill (namePairs n) (nameFields (named n vs)) ≡ fill (namePairs n) vs
 unfolding fill
 fill-named zero vs = refl
 fill-named (suc n) vs = rw (fill-named n (drop 2 vs))
 
-named-records : (n : ℕ) (vs : List (List ℕ)) → Fit (nameRows n) vs → all recordOk (named n vs) ≡ true
+named-records : (n : ℕ) (vs : List (List ℕ)) → Fit (namePairs n) vs → all recordOk (named n vs) ≡ true
 unfolding recordOk fits
 named-records zero vs f = refl
 named-records (suc n) vs f =
@@ -223,7 +223,7 @@ unfolding eqBytes
 named-mixed zero vs = refl
 named-mixed (suc n) vs = named-mixed n (drop 2 vs)
 
-named-ok : (n : ℕ) (vs : List (List ℕ)) → n ≤ 8 → Fit (nameRows n) vs → distinct (keyIds (named n vs)) ≡ true
+named-ok : (n : ℕ) (vs : List (List ℕ)) → n ≤ 8 → Fit (namePairs n) vs → distinct (keyIds (named n vs)) ≡ true
     → tableOk (named n vs) ≡ true
 unfolding own
 named-ok n vs k f d =
@@ -247,24 +247,24 @@ write-named : (n : ℕ) (vs : List (List ℕ)) → fits ok (getD vs 0 []) ≡ tr
 unfolding write fill
 write-named n vs f = rw (length-named n (drop 1 vs), fill-named n (drop 1 vs), exact ok (le 2 0) (getD vs 0 []) (or-false (eqBytes (le 2 0) (getD vs 0 []))) f)
 
--- what holds of the rows of any number of names
-pub rows-plain : (n : ℕ) → (honest 4 (nameRows n) ≡ true) × (tagsOk (nameRows n) ≡ true) × (most (nameRows n) ≡ 172 * n)
-rows-plain zero = (refl, refl, omega arith)
-rows-plain (suc n) = let (h, t, m) = rows-plain n in (h, t, omega arith)
+-- what holds of the pairs of any number of names
+pub pairs-plain : (n : ℕ) → (honest 4 (namePairs n) ≡ true) × (tagsOk (namePairs n) ≡ true) × (most (namePairs n) ≡ 172 * n)
+pairs-plain zero = (refl, refl, omega arith)
+pairs-plain (suc n) = let (h, t, m) = pairs-plain n in (h, t, omega arith)
 
-rows-keys : (n at : ℕ) (vs : List (List ℕ))
-    → map (λ v. v .value) (select (λ v. isHandle (v .tag)) (leaves at (nameRows n) vs)) ≡ keyIds (named n vs)
+pairs-keys : (n at : ℕ) (vs : List (List ℕ))
+    → map (λ v. v .value) (select (λ v. isHandle (v .tag)) (leaves at (namePairs n) vs)) ≡ keyIds (named n vs)
 unfolding nodes
-rows-keys zero at vs = refl
-rows-keys (suc n) at vs = rw (rows-keys n _ (drop 2 vs))
+pairs-keys zero at vs = refl
+pairs-keys (suc n) at vs = rw (pairs-keys n _ (drop 2 vs))
 
 listed-named : (n : ℕ) (vs : List (List ℕ)) → Fit (nameList n) vs → n ≤ 8
     → listedKeys (write (nameList n) vs) ≡ keyIds (named n (drop 1 vs))
 unfolding le nodes
 listed-named n vs f k =
-    let (h, t, m) = rows-plain n in
+    let (h, t, m) = pairs-plain n in
     keys-listed (nameList n) vs (both h refl) (all-fit (nameList n) vs f) (both t refl) (omega arith)
-    ∙ rw (append-nil (nodes (8 + length (getD vs 0 [])) (nameRows n) (drop 1 vs))) (rows-keys n _ (drop 1 vs))
+    ∙ rw (append-nil (nodes (8 + length (getD vs 0 [])) (namePairs n) (drop 1 vs))) (pairs-keys n _ (drop 1 vs))
 
 names-write : (n : ℕ) → 2 ≤ n → n ≤ 8 → Writes (nameList n)
 unfolding Writes lentOk profileOk nameResponse fits

@@ -229,12 +229,12 @@ chosen handles mine = select (λ r. empty handles || among (r .keyId) handles) m
 abbrev pub pairFields : Layout
 pairFields = fields (username ∷ keyHandle ∷ [])
 
-abbrev pub nameRows : ℕ → Layout
-nameRows zero = end
-nameRows (suc n) = group pairTag pairFields (nameRows n)
+abbrev pub namePairs : ℕ → Layout
+namePairs zero = end
+namePairs (suc n) = group pairTag pairFields (namePairs n)
 
 abbrev pub nameList : ℕ → Layout
-nameList n = group (responseTag sign) (field ok (nameRows n)) end
+nameList n = group (responseTag sign) (field ok (namePairs n)) end
 
 abbrev pub nameFields : Table → List (List ℕ)
 nameFields [] = []

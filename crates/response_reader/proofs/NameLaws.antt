@@ -13,16 +13,16 @@ use borrow.Author.Tests.{leb-true, leb-false, eqb-true, eqb-false, le-leb, lt-le
 use Rattle.model.specs.Lists.{any, select, distinct}
 use Rattle.model.specs.Tlv.{tagOf, ok, keyHandle, sign, pairTag, responseTag}
 use Rattle.model.specs.Layouts.{Layout, end, fields, reads}
-use Rattle.model.specs.Commands.{pairFields, nameRows, nameList}
+use Rattle.model.specs.Commands.{pairFields, namePairs, nameList}
 use Rattle.model.specs.Reader.{Part, holds, partsAt, fieldParts, listedKeys, listLengths, isHandle}
 use Rattle.model.proofs.Basics.{split, and-left, both, select-append, numbersFrom}
 use Rattle.model.proofs.LayoutLaws.{fits-least, fits-most}
 use Rattle.model.proofs.PartLaws.{honest}
-use Rattle.model.proofs.ResponseWitness.{rows-plain}
+use Rattle.model.proofs.ResponseWitness.{pairs-plain}
 use Rattle.tlv.specs.Heads.{between}
 use Rattle.tlv.proofs.HeadLaws.{IsTlv, head-end, length-part}
-use Rattle.columns.specs.Columns.{rows, row, Within}
-use Rattle.columns.proofs.ColumnLaws.{rows-more, within-more}
+use Rattle.tlv.specs.Rows.{rows, row, Within}
+use Rattle.tlv.proofs.RowLaws.{rows-more, within-more}
 use Rattle.layouts.specs.Places.{nowhere, readsAt, afterField, inGroup, afterGroup}
 use Rattle.layouts.proofs.PlaceLaws.{past-head, read-end, read-group, then-field, then-last, from-front, in-before, group-before, field-before}
 use Rattle.layouts.proofs.SizeLaws.{Layered, nothing, one, layered, length-front, parts-front, parts-nothing}
@@ -100,23 +100,23 @@ unfolding readsAt
 beyond l s at h = simp (lt-leb _ _ h)
 
 -- at the end there is none
-pairs-end : (s : List ℕ) (at k : ℕ) → at ≡ length s → readsAt (nameRows k) s at ≡ eqb k 0
+pairs-end : (s : List ℕ) (at k : ℕ) → at ≡ length s → readsAt (namePairs k) s at ≡ eqb k 0
 pairs-end s at zero e = read-end s at ∙ eq-eqb _ _ e
 pairs-end s at (suc k) e =
     let p : afterPair s at ≡ nowhere s = past-head pairTag pairFields s at (head-end s at (omega arith)) in
-    read-group pairTag pairFields (nameRows k) s at ∙ rw p (beyond (nameRows k) s (nowhere s) (omega arith))
+    read-group pairTag pairFields (namePairs k) s at ∙ rw p (beyond (namePairs k) s (nowhere s) (omega arith))
     ∙ sym (ne-eqb (suc k) 0 (λ z. omega arith))
 
 -- elsewhere there is one more than from the next place on
 module _ (s : List ℕ) (at : ℕ) {to : ℕ} (h : at ≡ length s → ⊥) (e : to ≡ afterPair s at) where
-  pairs-next : (k : ℕ) → readsAt (nameRows k) s at ≡ (leb 1 k && readsAt (nameRows (k - 1)) s to)
+  pairs-next : (k : ℕ) → readsAt (namePairs k) s at ≡ (leb 1 k && readsAt (namePairs (k - 1)) s to)
   pairs-next zero = read-end s at ∙ ne-eqb _ _ h
   pairs-next (suc k) =
       let x : suc k - 1 ≡ k = omega arith in
-      rw (le-leb 1 (suc k) (omega arith), x, e) (read-group pairTag pairFields (nameRows k) s at)
+      rw (le-leb 1 (suc k) (omega arith), x, e) (read-group pairTag pairFields (namePairs k) s at)
 
-  pairs-bad : length s < to → (k : ℕ) → readsAt (nameRows k) s at ≡ false
-  pairs-bad l k = pairs-next k ∙ rw (beyond (nameRows (k - 1)) s to l) (and-false (leb 1 k))
+  pairs-bad : length s < to → (k : ℕ) → readsAt (namePairs k) s at ≡ false
+  pairs-bad l k = pairs-next k ∙ rw (beyond (namePairs (k - 1)) s to l) (and-false (leb 1 k))
 
 -- ---- the loop over the pairs
 
@@ -140,7 +140,7 @@ exactly n m =
 pub record Keyed (s : List ℕ) (from : ℕ) (at : List ℕ) (n place : ℕ) : Type 0 where
   pub few : n ≤ 8
   pub sized : length at ≡ 8
-  pub number : (m : ℕ) → readsAt (nameRows m) s from ≡ (leb n m && readsAt (nameRows (m - n)) s place)
+  pub number : (m : ℕ) → readsAt (namePairs m) s from ≡ (leb n m && readsAt (namePairs (m - n)) s place)
   pub within : Within 0 (take n at) s
   pub keys : handlesFrom s from ≡ rows 0 (take n at) s ++ handlesFrom s place
 
@@ -159,8 +159,8 @@ keyed-none s from at h =
     }
 
 -- a stretch that at most eight pairs do not fill
-not-keyed : {s at : List ℕ} {from : ℕ} → ((m : ℕ) → m < 8 → readsAt (nameRows (suc m)) s from ≡ false)
-    → KeysAre s from (record { at = at; len = 0 })
+not-keyed : {s at : List ℕ} {from : ℕ} → ((m : ℕ) → m < 8 → readsAt (namePairs (suc m)) s from ≡ false)
+    → KeysAre s from (record { places = at; len = 0 })
 not-keyed {s} f =
     record {
       few = omega arith;
@@ -190,7 +190,7 @@ module _ {s at : List ℕ} {from n place : ℕ} (i : Keyed s from at n place) wh
       }
 
   -- all of them
-  pub keyed-all : place ≡ length s → KeysAre s from (record { at = at; len = n })
+  pub keyed-all : place ≡ length s → KeysAre s from (record { places = at; len = n })
   unfolding handlesFrom
   keyed-all e =
       record {
@@ -205,11 +205,11 @@ module _ {s at : List ℕ} {from n place : ℕ} (i : Keyed s from at n place) wh
 
   -- something else than pairs
   pub keyed-bad : {to : ℕ} → (place ≡ length s → ⊥) → to ≡ afterPair s place → length s < to
-      → KeysAre s from (record { at = at; len = 0 })
+      → KeysAre s from (record { places = at; len = 0 })
   keyed-bad h e l = not-keyed (λ m k. i .number (suc m) ∙ rw (pairs-bad s place h e l (suc m - n)) (and-false (leb n (suc m))))
 
   -- more than eight
-  pub keyed-more : 8 ≤ n → (place ≡ length s → ⊥) → KeysAre s from (record { at = at; len = 0 })
+  pub keyed-more : 8 ≤ n → (place ≡ length s → ⊥) → KeysAre s from (record { places = at; len = 0 })
   keyed-more k h =
       not-keyed
       (λ m l. let x : suc m - n ≡ 0 = omega arith in
@@ -234,7 +234,7 @@ any-run p n a (suc k) h f =
 
 -- the pairs start at b
 module _ (s : List ℕ) {a b : ℕ} (ea : a ≡ inGroup (responseTag sign) s 0) (eb : b ≡ afterField ok s a) where
-  list-reads : (n : ℕ) → reads (nameList n) s ≡ readsAt (nameRows n) s b
+  list-reads : (n : ℕ) → reads (nameList n) s ≡ readsAt (namePairs n) s b
   list-reads n = sym (from-front (then-last ea (then-field eb (record { given = refl }))))
 
   -- neither the response nor its status is a key handle
@@ -244,7 +244,7 @@ module _ (s : List ℕ) {a b : ℕ} (ea : a ≡ inGroup (responseTag sign) s 0) 
       let h : b ≤ length s = leb-true _ _ (and-left (leb b (length s)) _ (sym (list-reads n) ∙ e)) in
       let j = field-before h ok eb in
       let i = in-before (omega (arith, j)) (responseTag sign) ea in
-      rw (parts-met (nameList n) s (both (rows-plain n .0) refl) e, met-tlv i, met-tlv j)
+      rw (parts-met (nameList n) s (both (pairs-plain n .0) refl) e, met-tlv i, met-tlv j)
 
   module _ {r : Keys} (k : KeysAre s b r) where
     list-is : (m : ℕ) → 2 ≤ m → m < 9 → reads (nameList m) s ≡ eqb m (r .len)
@@ -256,7 +256,7 @@ module _ (s : List ℕ) {a b : ℕ} (ea : a ≡ inGroup (responseTag sign) s 0) 
 
     -- where `two` says whether there are two names or more
     pub list-distinct : (two : Bool) → leb 2 (r .len) ≡ two
-        → (any (λ n. reads (nameList n) s) listLengths && distinct (listedKeys s)) ≡ (two && distinct (rows 0 (take (r .len) (r .at)) s))
+        → (any (λ n. reads (nameList n) s) listLengths && distinct (listedKeys s)) ≡ (two && distinct (rows 0 (take (r .len) (r .places)) s))
     list-distinct true e =
         let h : 2 ≤ r .len = leb-true _ _ e in
         let y : reads (nameList (r .len)) s ≡ true = list-is (r .len) h (omega (arith, k .few)) ∙ eq-eqb (r .len) (r .len) refl in

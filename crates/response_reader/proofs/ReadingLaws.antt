@@ -23,11 +23,11 @@ use Rattle.tlv.specs.Heads.{part}
 use Rattle.tlv.specs.Spans.{span, Inside}
 use Rattle.tlv.specs.declared.heads.Span.{Span}
 use Rattle.tlv.proofs.HeadLaws.{IsTlv}
-use Rattle.columns.specs.Firsts.{firsts}
+use Rattle.tlv.specs.Firsts.{firsts}
 use Rattle.layouts.proofs.SizeLaws.{least, reads-least, fields-number}
 use Rattle.response_reader.specs.Met.{partAt, metPast, met, fieldsMet, spanOf, signedMet}
 use Rattle.response_reader.specs.Readings.{column, partsOf, readingOf, refusalOf, signedBytes}
-use Rattle.response_reader.specs.declared.fields_of.Parts.{Parts}
+use Rattle.response_reader.specs.declared.readings.Parts.{Parts}
 use Rattle.response_reader.proofs.MetLaws.{met-tlv, parts-met}
 
 -- ---- the first signed structure

@@ -5,9 +5,9 @@ use lib.ListN.{length, take, drop}
 use Rattle.model.specs.Commands.{Result, refused, gave}
 use Rattle.model.specs.Reader.{Part}
 use Rattle.model.specs.Reader as model
-use Rattle.columns.specs.Firsts.{firsts}
-use Rattle.response_reader.specs.declared.fields_of.Parts.{Parts}
-use Rattle.response_reader.specs.declared.fields_of.Reading.{Reading}
+use Rattle.tlv.specs.Firsts.{firsts}
+use Rattle.response_reader.specs.declared.readings.Parts.{Parts}
+use Rattle.response_reader.specs.declared.readings.Reading.{Reading}
 
 -- 0, or the refusal's number
 abbrev pub refusalOf : Result model.Reading → ℕ

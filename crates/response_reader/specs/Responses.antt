@@ -7,9 +7,9 @@ use lib.ListN.{take}
 use lib.Dec.{eqb}
 use Rattle.model.specs.Lists.{select}
 use Rattle.model.specs.Tlv.{ok, assertionTag}
-use Rattle.model.specs.Commands.{nameRows}
+use Rattle.model.specs.Commands.{namePairs}
 use Rattle.model.specs.Reader.{Part, holds, cut, isHandle}
-use Rattle.columns.specs.Columns.{rows, Within}
+use Rattle.tlv.specs.Rows.{rows, Within}
 use Rattle.layouts.specs.Places.{readsAt, afterField, inGroup}
 use Rattle.response_reader.specs.Met.{met}
 use Rattle.response_reader.specs.declared.names.Keys.{Keys}
@@ -29,6 +29,6 @@ handlesFrom s at = map (cut s) (handles (met s at))
 -- from a place on there are this many pairs and nothing else, with these KeyIDs; the number is 0 where there is anything else
 pub record KeysAre (s : List ℕ) (from : ℕ) (r : Keys) : Type 0 where
   pub few : r .len ≤ 8
-  pub number : (n : ℕ) → n < 8 → readsAt (nameRows (suc n)) s from ≡ eqb (suc n) (r .len)
-  pub within : Within 0 (take (r .len) (r .at)) s
-  pub keys : 0 < r .len → handlesFrom s from ≡ rows 0 (take (r .len) (r .at)) s
+  pub number : (n : ℕ) → n < 8 → readsAt (namePairs (suc n)) s from ≡ eqb (suc n) (r .len)
+  pub within : Within 0 (take (r .len) (r .places)) s
+  pub keys : 0 < r .len → handlesFrom s from ≡ rows 0 (take (r .len) (r .places)) s

@@ -1,4 +1,3 @@
-use columns::all_distinct;
 use fields::Field;
 use fields::Statuses;
 use fields::tags;
@@ -6,6 +5,7 @@ use layouts::Group;
 use layouts::after;
 use layouts::after_group;
 use layouts::enter;
+use tlv::rows::all_distinct;
 ghost use mathlib.Core.Path.{_≡_};
 ghost use mathlib.Core.Bool.{_&&_};
 ghost use Rattle.model.specs.Lists.{any, distinct};
@@ -16,7 +16,7 @@ ghost use Rattle.response_reader.specs.Responses.{KeysAre};
 
 // Where the KeyIDs of a list of names stand, and their number. What stands past it is open.
 struct Keys {
-    at: [usize; 8],
+    places: [usize; 8],
     len: usize,
 }
 
@@ -25,25 +25,25 @@ struct Keys {
 fn keys_from(s: &[u8], from: usize) -> Keys
     ensures { λ r. ⌜ KeysAre (now (s .entry)) from r ⌝ }
 {
-    let mut at = [0usize; 8];
+    let mut places = [0usize; 8];
     let mut len = 0;
     let mut place = from;
     while len < 8 {
         if place == s.len() {
-            return Keys { at, len };
+            return Keys { places, len };
         }
         let end = after_group(s, place, Group::Pair);
         if s.len() < end {
-            return Keys { at, len: 0 };
+            return Keys { places, len: 0 };
         }
-        at[len] = end - 32;
+        places[len] = end - 32;
         len += 1;
         place = end;
     }
     if place != s.len() {
-        return Keys { at, len: 0 };
+        return Keys { places, len: 0 };
     }
-    Keys { at, len }
+    Keys { places, len }
 }
 
 // Sign's list of names: two to eight, with different KeyIDs.
@@ -57,6 +57,6 @@ pub fn is_name_list(s: &[u8]) -> bool
     if n < 2 {
         return false;
     }
-    let at = keys.at;
-    all_distinct(s, &at[0..n], 0)
+    let places = keys.places;
+    all_distinct(s, &places[0..n], 0)
 }

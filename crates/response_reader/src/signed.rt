@@ -6,7 +6,7 @@ use tlv::heads::Head;
 use tlv::heads::NO_SPAN;
 use tlv::heads::Span;
 use tlv::heads::part_of;
-use tlv::walk::header;
+use tlv::walk::tlv_at;
 ghost use mathlib.Core.Path.{_≡_};
 ghost use Rattle.model.specs.Reader.{holds, isSigned, readResponse};
 ghost use Rattle.response_reader.specs.Met.{signedMet};
@@ -38,7 +38,7 @@ pub fn signed_in(s: &[u8]) -> Span
 {
     let mut at = 0;
     loop {
-        let h = header(s, at);
+        let h = tlv_at(s, at);
         match h {
             Head::End => return NO_SPAN,
             Head::Bad => return NO_SPAN,

@@ -6,7 +6,7 @@ use tlv::writer::put_bytes;
 ghost use Prim.Native.Nat.{_<_};
 
 // Arguments lie in slots of SIZE bytes: the length of one in two bytes, then at most MOST bytes.
-pub const SLOTS: usize = 22;
+pub const SLOTS: usize = 23;
 
 pub const MOST: usize = 8448;
 
@@ -56,6 +56,8 @@ pub const CERTIFICATE: usize = 20;
 
 pub const READ: usize = 21;
 
+pub const SPOILT: usize = 22;
+
 // The slot that a letter sets. One that starts a comment has none: there is no slot of this number, so nothing is set.
 pub fn slot_of(letter: u8) -> usize {
     match letter {
@@ -81,6 +83,7 @@ pub fn slot_of(letter: u8) -> usize {
         b'z' => SIGNATURE,
         b'e' => CERTIFICATE,
         b'r' => READ,
+        b'b' => SPOILT,
         _ => SLOTS,
     }
 }

@@ -1,4 +1,4 @@
--- A table in its stored form: a record's bytes, that what stands at a record's place is the record, and the rows of KeyIDs and mixed tokens.
+-- A table in its stored form: a record's bytes, what stands at a record's place, and the rows of KeyIDs and of mixed tokens.
 -- Assumes nothing.
 use mathlib.Core.Path.{_≡_, refl, sym, ap, _∙_}
 use mathlib.Core.Bool.{true}
@@ -19,9 +19,8 @@ use Rattle.model.proofs.Numbers.{length-le, num-le}
 use Rattle.model.proofs.Rules.{RecordRules, record-rules, tests}
 use Rattle.model.proofs.Tlvs.{bytes-append, bytes-one}
 use Rattle.tlv.specs.Numbers.{numAt}
-use Rattle.columns.specs.Columns.{rows, Within, times}
-use Rattle.key_table.specs.Views.{noRecord}
-use Rattle.stored_table.specs.Stored.{nameSize, recordAt, Stands, StoredAt, AllStand, tableIn, starts, Indexed}
+use Rattle.tlv.specs.Rows.{rows, row, Within, times}
+use Rattle.stored_table.specs.Stored.{noRecord, keyIdAt, mixedAt, nameAt, besideName, nameSize, recordAt, Stands, StoredAt, AllStand, tableIn, starts, Indexed}
 
 -- ---- the bytes of a stored record
 
@@ -97,156 +96,176 @@ lay r t =
     ∙ sym (append-assoc h (header 0x2E09 (length (r .keyId))) _)
 
 -- n bytes passed
-past : (p n q : ℕ) (b x rest : List ℕ) → q ≡ p + n → length x ≡ n → drop p b ≡ x ++ rest → drop q b ≡ rest
-past p n q b x rest g e d = rw g (sym (drop-drop n p b) ∙ ap (drop n) d ∙ drop-at x rest n e)
+past : (p n q : ℕ) (s x rest : List ℕ) → q ≡ p + n → length x ≡ n → drop p s ≡ x ++ rest → drop q s ≡ rest
+past p n q s x rest g e d = rw g (sym (drop-drop n p s) ∙ ap (drop n) d ∙ drop-at x rest n e)
 
 -- ---- what stands at its place
 
 -- this record stands at a place, as it is stored
-pub record RecordIs (b : List ℕ) (p : ℕ) (r : model.Record) : Type 0 where
-  pub is : recordAt b p ≡ r
-  pub size : nameSize b p ≡ length (r .name)
-  pub stands : Stands b p
-  pub stored : StoredAt b p
+pub record RecordIs (table : List ℕ) (place : ℕ) (r : model.Record) : Type 0 where
+  pub is : recordAt table place ≡ r
+  pub size : nameSize table place ≡ length (r .name)
+  pub stands : Stands table place
+  pub stored : StoredAt table place
 
 -- how long a stored record is
-pub length-one : (r : model.Record) (t : model.Table) → RecordRules r → length (encode (r ∷ t)) ≡ 88 + length (r .name) + length (encode t)
+pub length-one : (r : model.Record) (t : model.Table) → RecordRules r
+    → length (encode (r ∷ t)) ≡ besideName + length (r .name) + length (encode t)
 unfolding le
 length-one r t h = rw (lay r t) (simp length-append (omega (arith, h .key-id, h .mixed-token)))
 
-pub length-upTo : (r : model.Record) → RecordRules r → length (upTo r) ≡ 84 + length (r .name)
+pub length-upTo : (r : model.Record) → RecordRules r → length (upTo r) ≡ nameAt + 4 + length (r .name)
 length-upTo r h =
     let e : length (encode (r ∷ [])) ≡ length (upTo r) + (4 + length (encode [])) =
     ap length (encode-count r (r .count) []) ∙ simp (length-append, length-le) in
     omega (arith, length-one r [] h)
 
-module _ (b : List ℕ) (p : ℕ) (r : model.Record) (t : model.Table) (d : drop p b ≡ encode (r ∷ t)) (h : RecordRules r) where
+module _ (table : List ℕ) (place : ℕ) (r : model.Record) (t : model.Table) (d : drop place table ≡ encode (r ∷ t)) (h : RecordRules r) where
   abbrev rest : List ℕ
   rest = encode t
 
   abbrev n : ℕ
   n = length (r .name)
 
-  at-key : drop (p + 8) b ≡ r .keyId ++ behindKey r rest
+  at-key : drop (place + keyIdAt) table ≡ r .keyId ++ behindKey r rest
   unfolding le
-  at-key = past p 8 (p + 8) b (front r) _ refl refl (d ∙ lay r t)
+  at-key = past place keyIdAt (place + keyIdAt) table (front r) _ refl refl (d ∙ lay r t)
 
-  at-mixed : drop (p + 44) b ≡ r .mixed ++ behindMixed r rest
+  at-mixed : drop (place + mixedAt) table ≡ r .mixed ++ behindMixed r rest
   unfolding le
   at-mixed =
-      past (p + 40) 4 (p + 44) b (header 0x2805 (length (r .mixed))) _ (omega arith) refl
-      (past (p + 8) 32 (p + 40) b (r .keyId) _ (omega arith) (h .key-id) at-key)
+      let p : ℕ = place + keyIdAt + 32 in
+      past p 4 (place + mixedAt) table (header 0x2805 (length (r .mixed))) _ (omega arith) refl
+      (past (place + keyIdAt) 32 p table (r .keyId) _ refl (h .key-id) at-key)
 
-  behind-mixed : drop (p + 76) b ≡ behindMixed r rest
-  behind-mixed = past (p + 44) 32 (p + 76) b (r .mixed) _ (omega arith) (h .mixed-token) at-mixed
+  behind-mixed : drop (place + mixedAt + 32) table ≡ behindMixed r rest
+  behind-mixed = past (place + mixedAt) 32 (place + mixedAt + 32) table (r .mixed) _ refl (h .mixed-token) at-mixed
 
-  at-name : drop (p + 80) b ≡ r .name ++ behindName r rest
+  at-name : drop (place + nameAt) table ≡ r .name ++ behindName r rest
   unfolding le
-  at-name = past (p + 76) 4 (p + 80) b (header 0x2806 n) _ (omega arith) refl behind-mixed
+  at-name = past (place + mixedAt + 32) 4 (place + nameAt) table (header 0x2806 n) _ (omega arith) refl behind-mixed
 
-  at-count : drop (p + 84 + n) b ≡ le 4 (r .count) ++ rest
+  at-count : drop (place + (nameAt + 4) + n) table ≡ le 4 (r .count) ++ rest
   unfolding le
   at-count =
-      past (p + 80 + n) 4 (p + 84 + n) b (header 0x2E0D 4) _ (omega arith) refl (past (p + 80) n (p + 80 + n) b (r .name) _ refl refl at-name)
+      past (place + nameAt + n) 4 (place + (nameAt + 4) + n) table (header 0x2E0D 4) _ (omega arith) refl
+      (past (place + nameAt) n (place + nameAt + n) table (r .name) _ refl refl at-name)
 
   -- the length in the name's header
-  name-size : nameSize b p ≡ n
+  name-size : nameSize table place ≡ n
   unfolding numAt le
   name-size =
-      let e : drop (p + 78) b ≡ le 2 n ++ (r .name ++ behindName r rest) = past (p + 76) 2 (p + 78) b (le 2 0x2806) _ (omega arith) refl behind-mixed in
+      let e : drop (place + (nameAt - 2)) table ≡ le 2 n ++ (r .name ++ behindName r rest) =
+      past (place + mixedAt + 32) 2 (place + (nameAt - 2)) table (le 2 0x2806) _ (omega arith) refl behind-mixed in
       rw e (num-le 2 n (omega (arith, h .name-most)))
 
-  record-is : recordAt b p ≡ r
+  record-is : recordAt table place ≡ r
   unfolding recordAt numAt le
   record-is =
-      let c : num (take 4 (drop (p + 84 + n) b)) ≡ r .count = rw at-count (num-le 4 (r .count) (h .counter)) in
-      rw (name-size, at-key, at-mixed, at-name, take-at (r .keyId) (behindKey r rest) 32 (h .key-id), take-at (r .mixed) (behindMixed r rest) 32 (h .mixed-token), take-at (r .name) (behindName r rest) n refl, c)
+      let c : num (take 4 (drop (place + (nameAt + 4) + n) table)) ≡ r .count = rw at-count (num-le 4 (r .count) (h .counter)) in
+      rw (name-size, at-key, at-mixed, at-name, c)
+      (rw (take-at (r .keyId) _ 32 (h .key-id), take-at (r .mixed) _ 32 (h .mixed-token), take-at (r .name) _ n refl))
 
   -- the bytes from its place on
-  length-there : p ≤ length b → length b ≡ p + 88 + n + length rest
+  length-there : place ≤ length table → length table ≡ place + besideName + n + length rest
   length-there k =
-      let e : length b - p ≡ 88 + n + length rest = sym (length-drop p b) ∙ ap length d ∙ length-one r t h in
+      let e : length table - place ≡ besideName + n + length rest = sym (length-drop place table) ∙ ap length d ∙ length-one r t h in
       omega arith
 
-  stands-there : p ≤ length b → RecordIs b p r
+  stands-there : place ≤ length table → RecordIs table place r
   stands-there k =
       let e : encode (r ∷ t) ≡ encode (r ∷ []) ++ encode t = encode-append (r ∷ []) t in
-      let l : length (encode (r ∷ [])) ≡ 88 + n = length-one r [] h ∙ (unfold encode in omega arith) in
+      let l : length (encode (r ∷ [])) ≡ besideName + n = length-one r [] h ∙ (unfold encode in omega arith) in
       record {
         is = record-is;
         size = name-size;
         stands = rw name-size (omega (arith, length-there k));
-        stored = rw (name-size, record-is, d ∙ e) (take-at (encode (r ∷ [])) (encode t) (88 + n) l);
+        stored = rw (name-size, record-is, d ∙ e) (take-at (encode (r ∷ [])) (encode t) (besideName + n) l);
       }
 
--- how long the name and the KeyID of the record at a place are
-module _ (b : List ℕ) (p : ℕ) (h : Stands b p) where
-  pub name-length : {v : List ℕ} → v ≡ recordAt b p .name → length v ≡ nameSize b p
+-- how long the name, the KeyID and the mixed token of the record at a place are
+module _ (table : List ℕ) (place : ℕ) (h : Stands table place) where
+  pub name-length : {v : List ℕ} → v ≡ recordAt table place .name → length v ≡ nameSize table place
   unfolding recordAt
-  name-length e = rw e (length-take-le (nameSize b p) (drop (p + 80) b) (simp length-drop (omega arith)))
+  name-length e = rw e (length-take-le (nameSize table place) (drop (place + nameAt) table) (simp length-drop (omega arith)))
 
-  pub key-length : {k : List ℕ} → k ≡ recordAt b p .keyId → length k ≡ 32
+  row-length : (off : ℕ) → off ≤ mixedAt → length (row (place + off) table) ≡ 32
+  row-length off k = length-take-le 32 (drop (place + off) table) (simp length-drop (omega arith))
+
+  pub key-length : {k : List ℕ} → k ≡ recordAt table place .keyId → length k ≡ 32
   unfolding recordAt
-  key-length e = rw e (length-take-le 32 (drop (p + 8) b) (simp length-drop (omega arith)))
+  key-length e = rw e (row-length keyIdAt (omega arith))
+
+  pub mixed-length : {m : List ℕ} → m ≡ recordAt table place .mixed → length m ≡ 32
+  unfolding recordAt
+  mixed-length e = rw e (row-length mixedAt (omega arith))
 
 -- ---- each record of a stored table
 
 -- at each place stands its record
 abbrev pub Located : List ℕ → List ℕ → model.Table → Type 0
-Located b [] [] = Unit {0}
-Located b [] (r ∷ t) = ⊥
-Located b (p ∷ at) [] = ⊥
-Located b (p ∷ at) (r ∷ t) = RecordIs b p r × Located b at t
+Located table [] [] = Unit {0}
+Located table [] (r ∷ t) = ⊥
+Located table (place ∷ places) [] = ⊥
+Located table (place ∷ places) (r ∷ t) = RecordIs table place r × Located table places t
 
 -- a table stored behind other bytes
-pub located : (b : List ℕ) (p : ℕ) (t : model.Table) → p ≤ length b → drop p b ≡ encode t → all recordOk t ≡ true → Located b (starts p t) t
+pub located : (table : List ℕ) (place : ℕ) (t : model.Table) → place ≤ length table → drop place table ≡ encode t → all recordOk t ≡ true
+    → Located table (starts place t) t
 unfolding starts
-located b p [] k d ok = tt
-located b p (r ∷ t) k d ok =
+located table place [] k d ok = tt
+located table place (r ∷ t) k d ok =
     let h : RecordRules r = record-rules r (and-left (recordOk r) _ ok) in
-    let l : length (encode (r ∷ [])) ≡ 88 + length (r .name) = length-one r [] h ∙ (unfold encode in omega arith) in
-    let e : drop (p + 88 + length (r .name)) b ≡ encode t =
-    past p (88 + length (r .name)) (p + 88 + length (r .name)) b (encode (r ∷ [])) (encode t) (omega arith) l (d ∙ encode-append (r ∷ []) t) in
-    (stands-there b p r t d h k, located b (p + 88 + length (r .name)) t (omega (arith, length-there b p r t d h k)) e (and-right (recordOk r) _ ok))
+    let n : ℕ = besideName + length (r .name) in
+    let next : ℕ = place + besideName + length (r .name) in
+    let l : length (encode (r ∷ [])) ≡ n = length-one r [] h ∙ (unfold encode in omega arith) in
+    let e : drop next table ≡ encode t =
+    past place n next table (encode (r ∷ [])) (encode t) (omega arith) l (d ∙ encode-append (r ∷ []) t) in (
+      stands-there table place r t d h k,
+      located table next t (omega (arith, length-there table place r t d h k)) e (and-right (recordOk r) _ ok),
+    )
 
-located-at : (b at : List ℕ) (t : model.Table) → Located b at t → (i : ℕ) → i < length at
-    → RecordIs b (getD at i 0) (getD t i noRecord)
-located-at b [] t l i h = absurd (omega arith)
-located-at b (p ∷ at) [] l i h = absurd l
-located-at b (p ∷ at) (r ∷ t) l zero h = l .0
-located-at b (p ∷ at) (r ∷ t) l (suc i) h = located-at b at t (l .1) i (omega arith)
+located-at : (table places : List ℕ) (t : model.Table) → Located table places t → (i : ℕ) → i < length places
+    → RecordIs table (getD places i 0) (getD t i noRecord)
+located-at table [] t l i h = absurd (omega arith)
+located-at table (place ∷ places) [] l i h = absurd l
+located-at table (place ∷ places) (r ∷ t) l zero h = l .0
+located-at table (place ∷ places) (r ∷ t) l (suc i) h = located-at table places t (l .1) i (omega arith)
 
-located-records : (b at : List ℕ) (t : model.Table) → Located b at t → map (recordAt b) at ≡ t
-located-records b [] [] l = refl
-located-records b [] (r ∷ t) l = absurd l
-located-records b (p ∷ at) [] l = absurd l
-located-records b (p ∷ at) (r ∷ t) l = rw (l .0 .is, located-records b at t (l .1))
+located-records : (table places : List ℕ) (t : model.Table) → Located table places t → map (recordAt table) places ≡ t
+located-records table [] [] l = refl
+located-records table [] (r ∷ t) l = absurd l
+located-records table (place ∷ places) [] l = absurd l
+located-records table (place ∷ places) (r ∷ t) l = rw (l .0 .is, located-records table places t (l .1))
 
-module _ (b at : List ℕ) (t : model.Table) (l : Located b at t) where
-  pub located-stand : AllStand b at
-  located-stand = record { each = λ i h. located-at b at t l i h .stands }
+module _ (table places : List ℕ) (t : model.Table) (l : Located table places t) where
+  pub located-stand : AllStand table places
+  located-stand = record { each = λ i h. located-at table places t l i h .stands }
 
   -- the rows of KeyIDs and of mixed tokens
-  pub located-keys : rows 8 at b ≡ keyIds t
+  pub located-keys : rows keyIdAt places table ≡ keyIds t
   unfolding rows recordAt
-  located-keys = sym (map-map (λ (r : model.Record). r .keyId) (recordAt b) at) ∙ ap keyIds (located-records b at t l)
+  located-keys = sym (map-map (λ (r : model.Record). r .keyId) (recordAt table) places) ∙ ap keyIds (located-records table places t l)
 
-  pub located-mixed : rows 44 at b ≡ map (λ r. r .mixed) t
+  pub located-mixed : rows mixedAt places table ≡ map (λ r. r .mixed) t
   unfolding rows recordAt
   located-mixed =
-      sym (map-map (λ (r : model.Record). r .mixed) (recordAt b) at) ∙ ap (map (λ (r : model.Record). r .mixed)) (located-records b at t l)
+      sym (map-map (λ (r : model.Record). r .mixed) (recordAt table) places)
+      ∙ ap (map (λ (r : model.Record). r .mixed)) (located-records table places t l)
 
-pub stand-within : (b at : List ℕ) (off : ℕ) → off ≤ 44 → AllStand b at → Within off at b
-stand-within b at off h s = record { each = λ i l. omega (arith, s .each i l) }
+pub stand-within : (table places : List ℕ) (off : ℕ) → off ≤ mixedAt → AllStand table places → Within off places table
+stand-within table places off h s = record { each = λ i l. omega (arith, s .each i l) }
 
 -- a record starts where those before it end
-start-at : (p : ℕ) (t : model.Table) → all recordOk t ≡ true → (i : ℕ) → i < length t → getD (starts p t) i 0 ≡ p + length (encode (take i t))
+start-at : (place : ℕ) (t : model.Table) → all recordOk t ≡ true → (i : ℕ) → i < length t
+    → getD (starts place t) i 0 ≡ place + length (encode (take i t))
 unfolding starts encode
-start-at p [] ok i h = absurd (omega arith)
-start-at p (r ∷ t) ok zero h = omega arith
-start-at p (r ∷ t) ok (suc i) h =
+start-at place [] ok i h = absurd (omega arith)
+start-at place (r ∷ t) ok zero h = omega arith
+start-at place (r ∷ t) ok (suc i) h =
     let rules : RecordRules r = record-rules r (and-left (recordOk r) _ ok) in
-    omega (arith, start-at (p + 88 + length (r .name)) t (and-right (recordOk r) _ ok) i (omega arith), length-one r (take i t) rules)
+    let next = start-at (place + besideName + length (r .name)) t (and-right (recordOk r) _ ok) i (omega arith) in
+    omega (arith, next, length-one r (take i t) rules)
 
 -- how many records a mixed token has
 pub times-own : (m : List ℕ) (t : model.Table) → times m (map (λ r. r .mixed) t) ≡ length (own m t)
@@ -258,32 +277,35 @@ times-own m (r ∷ t) =
 
 -- ---- a table of which the records' places are known
 
-module _ {b at : List ℕ} (x : Indexed b at) where
-  all-located : Located b at (tableIn b)
-  all-located = rw (x .places) (located b 0 (tableIn b) (omega arith) (sym (x .whole)) (tests (tableIn b) (x .ok) .each))
+module _ {table places : List ℕ} (x : Indexed table places) where
+  abbrev t : model.Table
+  t = tableIn table
 
-  pub record-at : (i : ℕ) → i < length at → RecordIs b (getD at i 0) (getD (tableIn b) i noRecord)
-  record-at = located-at b at (tableIn b) all-located
+  all-located : Located table places t
+  all-located = rw (x .places-are) (located table 0 t (omega arith) (sym (x .whole)) (tests t (x .ok) .each))
 
-  pub length-places : length at ≡ length (tableIn b)
-  length-places = rw (← located-records b at (tableIn b) all-located) (simp length-map)
+  pub record-at : (i : ℕ) → i < length places → RecordIs table (getD places i 0) (getD (tableIn table) i noRecord)
+  record-at = located-at table places t all-located
+
+  pub length-places : length places ≡ length (tableIn table)
+  length-places = rw (← located-records table places t all-located) (simp length-map)
 
   -- record i is one of the table, and starts where those before it end
-  module _ (i : ℕ) (h : i < length at) where
-    pub numbered : i < length (tableIn b)
+  module _ (i : ℕ) (h : i < length places) where
+    pub numbered : i < length (tableIn table)
     numbered = omega (arith, length-places)
 
-    pub place-is : getD at i 0 ≡ length (encode (take i (tableIn b)))
-    place-is = rw (x .places) (start-at 0 (tableIn b) (tests (tableIn b) (x .ok) .each) i numbered ∙ zero-add _)
+    pub place-is : getD places i 0 ≡ length (encode (take i (tableIn table)))
+    place-is = rw (x .places-are) (start-at 0 t (tests t (x .ok) .each) i numbered ∙ zero-add _)
 
-  pub few-places : length at ≤ 32
-  few-places = omega (arith, length-places, tests (tableIn b) (x .ok) .few)
+  pub few-places : length places ≤ 32
+  few-places = omega (arith, length-places, tests t (x .ok) .few)
 
-  pub all-stand : AllStand b at
-  all-stand = located-stand b at (tableIn b) all-located
+  pub all-stand : AllStand table places
+  all-stand = located-stand table places t all-located
 
-  pub keys-are : rows 8 at b ≡ keyIds (tableIn b)
-  keys-are = located-keys b at (tableIn b) all-located
+  pub keys-are : rows keyIdAt places table ≡ keyIds (tableIn table)
+  keys-are = located-keys table places t all-located
 
-  pub mixed-are : rows 44 at b ≡ map (λ r. r .mixed) (tableIn b)
-  mixed-are = located-mixed b at (tableIn b) all-located
+  pub mixed-are : rows mixedAt places table ≡ map (λ r. r .mixed) (tableIn table)
+  mixed-are = located-mixed table places t all-located

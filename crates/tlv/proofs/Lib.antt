@@ -4,3 +4,5 @@ pub mod WidthLaws
 pub mod HeadLaws
 pub mod SameLaws
 pub mod WriteLaws
+pub mod RowLaws
+pub mod FirstLaws

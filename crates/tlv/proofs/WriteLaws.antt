@@ -80,23 +80,6 @@ module _ {d d₁ d₂ v : List ℕ} {at n r₁ r₂ : ℕ} (tag : ℕ) where
   pub then-value : Wrote d at (header tag n) 4 d₁ r₁ → Wrote d₁ r₁ v n d₂ r₂ → Wrote d at (bytes (tlv tag v ∷ [])) (4 + n) d₂ r₂
   then-value p q = same (sym (bytes-one tag n v (q .size))) refl (then p q)
 
--- a value, and then before it the header of its length
-pub header-last : {d d₁ d₂ v : List ℕ} {n r₁ r₂ : ℕ} (tag m : ℕ) → m ≡ n → Wrote d 4 v n d₁ r₁ → Wrote d₁ 0 (header tag m) 4 d₂ r₂
-    → Wrote d 0 (bytes (tlv tag v ∷ [])) (4 + n) d₂ r₁
-header-last {d} {d₁} {d₂} {v} {n} tag m k p q =
-    let a : length (take 4 d) ≡ 4 = length-take-le 4 d (omega (arith, p)) in
-    let e : drop 4 d₁ ≡ v ++ drop (4 + length v) d = rw (p .bytes) (drop-at (take 4 d) (v ++ drop (4 + length v) d) 4 a) in
-    let h : length v ≡ m = omega (arith, p) in
-    let x : List ℕ = header tag m ++ v in
-    let s : 0 + length x ≡ 4 + length v = omega (arith, length-append (header tag m) v, q .size) in
-    rw (bytes-one tag m v h)
-    (record {
-      size = omega (arith, p);
-      room = omega (arith, p);
-      next = omega (arith, p);
-      bytes = q .bytes ∙ rw (q .size, e, s) (simp append-assoc);
-    })
-
 -- ---- stores one after the other
 
 abbrev pub stores : List ℕ → ℕ → List ℕ → List ℕ

@@ -3,3 +3,5 @@ pub mod Numbers
 pub mod Heads
 pub mod Spans
 pub mod Writing
+pub mod Rows
+pub mod Firsts

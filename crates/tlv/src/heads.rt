@@ -1,5 +1,7 @@
 use crate::numbers::get16;
 ghost use mathlib.Core.Path.{_≡_};
+ghost use Prim.Native.Nat.{_-_, _≤_};
+ghost use lib.Dec.{eqb};
 ghost use Rattle.tlv.specs.Heads.{headAt, part};
 ghost use Rattle.tlv.specs.Spans.{Inside};
 
@@ -9,16 +11,33 @@ pub struct Span {
     pub end: usize,
 }
 
+impl Span {
+    // How long it is.
+    pub fn len(self) -> usize
+        requires { ⌜ self .start ≤ self .end ⌝ }
+        ensures { λ r. ⌜ r ≡ self .end - self .start ⌝ }
+    {
+        self.end - self.start
+    }
+
+    // Whether it is empty.
+    pub fn is_empty(self) -> bool
+        ensures { λ r. ⌜ r ≡ eqb (self .start) (self .end) ⌝ }
+    {
+        self.start == self.end
+    }
+}
+
 // An empty part at the front.
 pub const NO_SPAN: Span = Span { start: 0, end: 0 };
 
-// At most eight of them.
+// At most eight parts of a stretch.
 pub struct Spans {
     pub at: [Span; 8],
     pub len: usize,
 }
 
-// That part of a stretch.
+// A part of a stretch, lent on.
 pub fn part_of(s: &[u8], p: Span) -> &[u8]
     requires { ⌜ Inside (now s) p ⌝ }
     ensures { λ r. ⌜ now r ≡ part (now (s .entry)) p ⌝ }
@@ -39,7 +58,7 @@ pub enum Head {
     End,
 }
 
-// What stands at a place, read from the bytes there. Readers of a run go by `walk::header`.
+// What stands at a place, read from the bytes there. Readers of a run go by `walk::tlv_at`.
 pub fn head_at(s: &[u8], at: usize) -> Head
     ensures { λ r. ⌜ r ≡ headAt (now (s .entry)) at ⌝ }
 {
@@ -64,5 +83,5 @@ pub fn head_at(s: &[u8], at: usize) -> Head
 // The bit that marks a composite tag.
 pub const COMPOSITE: usize = 0x1000;
 
-// And a critical one.
+// The bit that marks a critical tag.
 pub const CRITICAL: usize = 0x2000;

@@ -3,5 +3,6 @@ pub mod bytes;
 pub mod heads;
 pub mod numbers;
 pub mod reader;
+pub mod rows;
 pub mod walk;
 pub mod writer;

@@ -1,7 +1,7 @@
 use crate::heads::COMPOSITE;
 use crate::heads::Head;
 use crate::numbers::get16;
-use crate::walk::header;
+use crate::walk::tlv_at;
 ghost use mathlib.Core.Path.{_≡_};
 ghost use Rattle.model.specs.Tlv.{wellFormed, fills};
 
@@ -14,7 +14,7 @@ pub fn well_formed(s: &[u8], levels: usize) -> bool
     }
     let mut at = 0;
     loop {
-        let h = header(s, at);
+        let h = tlv_at(s, at);
         match h {
             Head::End => return true,
             Head::Bad => return false,

@@ -4,7 +4,7 @@ ghost use mathlib.Core.Path.{_≡_};
 ghost use Rattle.tlv.specs.Heads.{headAt};
 
 // A walk: "the stretch being read, with the place reached in it". A struct that holds a reference is proved by hand, so what is over it is
-// thin: it is taken apart here, the work is done by `head_at` on slice and number, and everybody else calls `header`.
+// thin: it is taken apart here, the work is done by `head_at` on slice and number, and everybody else calls `tlv_at`.
 pub struct Walk<'a> {
     pub stretch: &'a [u8],
     pub at: usize,
@@ -35,7 +35,7 @@ pub fn moved<'a>(w: Walk<'a>, at: usize) -> Walk<'a>
 }
 
 // What stands at a place of a stretch.
-pub fn header(s: &[u8], at: usize) -> Head
+pub fn tlv_at(s: &[u8], at: usize) -> Head
     ensures { λ h. ⌜ h ≡ headAt (now (s .entry)) at ⌝ }
 {
     next(moved(new(s), at))

@@ -1,5 +1,5 @@
 -- The laws of the exported entries.
 pub mod EntryLaws
-pub mod AssertionLaws
+pub mod ResponseLaws
 pub mod RoundTrip
 pub mod SeparationOfCalls

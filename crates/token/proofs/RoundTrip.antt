@@ -23,7 +23,7 @@ use Rattle.model.proofs.EdgesSign.{picked}
 use Rattle.model.proofs.ReadBack.{CompletionReadBack, completion-read-back, DraftReadBack, draft-read-back}
 use Rattle.response_reader.specs.Readings.{column}
 use Rattle.token.specs.Returned.{Returned, answerNumber, returned}
-use Rattle.token.specs.Assertions.{ReturnedCompletion, completedAs, ReturnedPart, pointed, ReturnedFields, returnedFields}
+use Rattle.token.specs.Responses.{ReturnedCompletion, completedAs, ReturnedPart, pointed, ReturnedFields, returnedFields}
 
 -- what the reader's two entries gave of a response with these bytes, where c is the completion that wrote it, of a draft with this layout and
 -- these values for its fields

@@ -1,4 +1,4 @@
 -- What the firmware gets back.
 pub mod Returned
-pub mod Assertions
+pub mod Responses
 pub mod Calls

@@ -1,13 +1,12 @@
 -- All that the firmware gets back from a call.
 use Prim.Native.Nat.{ℕ}
+use mathlib.Core.Bool.{Bool, cond}
 use mathlib.Core.List.{List, []}
 use mathlib.Core.Option.{some, Option·getD}
 use lib.ListN.{length}
 use Rattle.model.specs.Records.{encode}
 use Rattle.model.specs.Commands.{Answer, response, draft, Result, refused, gave, Effect, bytesOf, outputs}
-use Rattle.responses.specs.declared.lent.Numbers.{Numbers}
-use Rattle.decisions.specs.declared.answers.Answer.{Answer as Written}
-use Rattle.decisions.specs.declared.answers.Answer.the-variants.{Response, Draft}
+use Rattle.params.specs.declared.lent.Numbers.{Numbers}
 
 -- the refusal number, or 0; the three numbers and the two outputs that it lent
 pub record Returned : Type 0 where
@@ -27,15 +26,9 @@ abbrev pub answerNumber : Answer → ℕ
 answerNumber (response s) = 0
 answerNumber (draft s) = 1
 
--- what the code says of what it wrote: which of the two
-abbrev pub toldKind : Written → ℕ
-toldKind (Response n) = 0
-toldKind (Draft n) = 1
-
--- and its length
-abbrev pub toldLength : Written → ℕ
-toldLength (Response n) = n
-toldLength (Draft n) = n
+-- the same of what the code says
+abbrev pub draftNumber : Bool → ℕ
+draftNumber d = cond d 1 0
 
 -- from a call with this result that was lent these; after a refusal not one of them has changed
 unfoldable pub returned : Result Effect → Returned → Returned

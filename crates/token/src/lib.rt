@@ -1,39 +1,25 @@
 // The exported entries: numbers and byte stretches only.
-pub mod assertions;
+pub mod responses;
 
-use authenticator::answers::Outcome;
-use authenticator::answers::Refusal;
-use authenticator::answers::number_of;
-use authenticator::left::write_left;
-use authenticator::serve::serve;
-use decisions::answers::Answer;
-use fields::LEAST_OUTPUT;
-use responses::lent::Numbers;
-use table_index::read_places;
+use authenticator::call::call;
+use authenticator::outcome::Outcome;
+use authenticator::outcome::number_of;
+use params::lent::Numbers;
 ghost use mathlib.Core.Path.{_≡_};
 ghost use mathlib.Core.Option.{some};
 ghost use lib.ListN.{length};
 ghost use Rattle.model.specs.Commands.{stored, outcome};
-ghost use Rattle.responses.specs.Lent.{lentOf, call};
-ghost use Rattle.token.specs.Returned.{gets, toldKind, toldLength, returned, numbersOf};
+ghost use Rattle.params.specs.Lent.{lentOf, call};
+ghost use Rattle.token.specs.Returned.{gets, draftNumber, returned, numbersOf};
 
-// "Its own output shorter than 6,912".
-pub const MAX_STORED: usize = 6912;
-
-// Tells the caller which of the two was written, and its length.
-fn tell(a: Answer, answer: &mut u32, response_len: &mut usize)
-    ensures { λ _. ⌜ (now (answer .exit) ≡ toldKind a) × (now («response_len» .exit) ≡ toldLength a) ⌝ }
+// A draft is told by 1, a response by 0.
+fn draft_number(draft: bool) -> u32
+    ensures { λ r. ⌜ r ≡ draftNumber draft ⌝ }
 {
-    match a {
-        Answer::Response(n) => {
-            *answer = 0;
-            *response_len = n;
-        }
-        Answer::Draft(n) => {
-            *answer = 1;
-            *response_len = n;
-        }
+    if draft {
+        return 1;
     }
+    0
 }
 
 // Runs a call on a table in its stored form. Gives the refusal number, or 0; then response_len bytes of the response output are a response
@@ -71,18 +57,6 @@ pub extern "C" fn uaf_command(
         (stored (now (table .entry))))
         (gets 0 (now (answer .entry)) (now («response_len» .entry)) (now («table_len» .entry)) (now (response .entry)) (now («table_out» .entry))) ⌝ }
 {
-    if response.len() < LEAST_OUTPUT {
-        return number_of(Refusal::ShortOutput);
-    }
-    if table_out.len() < MAX_STORED {
-        return number_of(Refusal::ShortOutput);
-    }
-    let read = read_places(table);
-    if !read.ok {
-        return number_of(Refusal::BrokenTable);
-    }
-    let at = read.at;
-    let n = read.len;
     let numbers = Numbers {
         version,
         signature_algorithm,
@@ -90,7 +64,7 @@ pub extern "C" fn uaf_command(
         verdict,
         display,
     };
-    let served = serve(
+    let outcome = call(
         command,
         aaid,
         numbers,
@@ -101,16 +75,19 @@ pub extern "C" fn uaf_command(
         nonce,
         hash,
         table,
-        &at[0..n],
         response,
+        table_out,
     );
-    let outcome = served.outcome;
     match outcome {
         Outcome::Refused(r) => number_of(r),
-        Outcome::Gave(a) => {
-            let change = served.change;
-            *table_len = write_left(table_out, table, &at[0..n], change, command, mixed, key_id);
-            tell(a, answer, response_len);
+        Outcome::Gave {
+            draft,
+            response_len: n,
+            table_len: m,
+        } => {
+            *answer = draft_number(draft);
+            *response_len = n;
+            *table_len = m;
             0
         }
     }

@@ -1,7 +1,8 @@
-// Runs the calls of a script on the C entries and writes what each gives. A line of the script is a letter, a space and bytes in
-// hexadecimal, which sets an argument until it is set again; '!', a space and a name run a command, and '?' does so and writes the table
-// left; '=' completes a draft; '<' reads a response, and '^' changes a byte of it. Other lines are comments. After a command that is not
-// refused the table left is the table of the next, and a completed response is the next one read.
+// Runs the calls of a script on the C entries, or on a table by value, and writes what each gives. A line of the script is a letter, a space
+// and bytes in hexadecimal, which sets an argument until it is set again; '!', a space and a name run a command, and '?' does so and writes
+// the table left; '&' and '@' do the same by value; '=' completes a draft; '<' reads a response, and '^' changes a byte of it. Other lines
+// are comments. After a command that is not refused the table left is the table of the next, whichever its form, and a completed response is
+// the next one read.
 use script::slots::MOST;
 use script::slots::READ;
 use script::slots::SIZE;
@@ -10,9 +11,9 @@ use script::slots::slot_of;
 use script::slots::store;
 use script::text::read_hex;
 use tlv::numbers::get16;
-use trace_assertions::complete;
-use trace_assertions::read;
 use trace_commands::run;
+use trace_responses::complete;
+use trace_responses::read;
 ghost use Prim.Native.Nat.{_+_, _≤_, _<_};
 ghost use lib.ListN.{length};
 
@@ -42,8 +43,10 @@ fn obey(line: &[u8], mem: &mut [u8]) {
     let letter = line[0];
     let rest = &line[2..];
     match letter {
-        b'!' => run(rest, false, mem),
-        b'?' => run(rest, true, mem),
+        b'!' => run(rest, false, false, mem),
+        b'?' => run(rest, false, true, mem),
+        b'&' => run(rest, true, false, mem),
+        b'@' => run(rest, true, true, mem),
         b'=' => complete(rest, mem),
         b'<' => read(rest, mem),
         b'^' => change(rest, mem),
@@ -76,7 +79,7 @@ fn obey_all(s: &[u8], mem: &mut [u8]) {
 
 // The script is read from standard input, whole.
 fn main() {
-    let mut text = [0u8; 262144];
+    let mut text = [0u8; 524288];
     let n = io::read_full(0, &mut text);
     let mut mem = [0u8; SLOTS * SIZE];
     obey_all(&text[..n], &mut mem);

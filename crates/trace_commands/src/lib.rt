@@ -1,4 +1,8 @@
-// Calls of `uaf_command`: one from the arguments in the slots, and the line that says what it gave.
+// Calls from the arguments in the slots, and the line that says what each gave: of `uaf_command` here, on a table by value in `by_value`.
+mod by_value;
+
+use crate::by_value::run_by_value;
+use params::lent::Numbers;
 use script::slots::AAID;
 use script::slots::COMMAND;
 use script::slots::DISPLAY;
@@ -35,25 +39,32 @@ struct Given {
     table_len: usize,
 }
 
+// The lent numbers in the slots.
+fn numbers_in(mem: &[u8]) -> Numbers {
+    Numbers {
+        version: number(mem, VERSION) as u16,
+        signature_algorithm: number(mem, SIGNATURE_ALGORITHM) as u16,
+        key_algorithm: number(mem, KEY_ALGORITHM) as u16,
+        verdict: (number(mem, VERDICT) % 256) as u8,
+        display: (number(mem, DISPLAY) % 256) as u8,
+    }
+}
+
 // Calls with the arguments in the slots and two outputs.
 fn call(mem: &[u8], response: &mut [u8], table_out: &mut [u8]) -> Given {
-    let version = number(mem, VERSION) as u16;
-    let signature_algorithm = number(mem, SIGNATURE_ALGORITHM) as u16;
-    let key_algorithm = number(mem, KEY_ALGORITHM) as u16;
-    let verdict = (number(mem, VERDICT) % 256) as u8;
-    let display = (number(mem, DISPLAY) % 256) as u8;
+    let numbers = numbers_in(mem);
     let mut answer = NO_ANSWER;
     let mut response_len = UNSET;
     let mut table_len = UNSET;
     let code = uaf_command(
         arg(mem, COMMAND),
         arg(mem, AAID),
-        version,
-        signature_algorithm,
-        key_algorithm,
+        numbers.version,
+        numbers.signature_algorithm,
+        numbers.key_algorithm,
         arg(mem, METADATA),
-        verdict,
-        display,
+        numbers.verdict,
+        numbers.display,
         arg(mem, MIXED),
         arg(mem, KEY_ID),
         arg(mem, PUBLIC_KEY),
@@ -115,8 +126,25 @@ fn tell(name: &[u8], g: Given, response: &[u8], table_out: &[u8], dump: bool) {
     io::write_all(1, b"\n");
 }
 
-// Runs a call, writes its line and keeps the table left. The outputs are the first bytes of two stretches.
-fn run_in(name: &[u8], dump: bool, mem: &mut [u8], response: &mut [u8], table_out: &mut [u8]) {
+// Runs a call on the stored table, writes its line and keeps the table left.
+fn run_stored(name: &[u8], dump: bool, mem: &mut [u8], response: &mut [u8], table_out: &mut [u8]) {
+    let g = call(mem, response, table_out);
+    tell(name, g, response, table_out, dump);
+    if g.code != 0 {
+        return;
+    }
+    store(table_out, g.table_len, TABLE, mem);
+}
+
+// Runs a call in one of the two forms. The outputs are the first bytes of two stretches.
+fn run_in(
+    name: &[u8],
+    by_value: bool,
+    dump: bool,
+    mem: &mut [u8],
+    response: &mut [u8],
+    table_out: &mut [u8],
+) {
     let n = number(mem, RESPONSE_LENGTH);
     let m = number(mem, TABLE_LENGTH);
     if response.len() < n {
@@ -125,17 +153,16 @@ fn run_in(name: &[u8], dump: bool, mem: &mut [u8], response: &mut [u8], table_ou
     if table_out.len() < m {
         return;
     }
-    let g = call(mem, &mut response[0..n], &mut table_out[0..m]);
-    tell(name, g, &response[0..n], &table_out[0..m], dump);
-    if g.code != 0 {
+    if by_value {
+        run_by_value(name, dump, mem, &mut response[0..n], &mut table_out[0..m]);
         return;
     }
-    store(&table_out[0..m], g.table_len, TABLE, mem);
+    run_stored(name, dump, mem, &mut response[0..n], &mut table_out[0..m]);
 }
 
-// Runs a command with outputs of its own, and keeps the table that it left for the next.
-pub fn run(name: &[u8], dump: bool, mem: &mut [u8]) {
+// Runs a command with outputs of its own, on the stored table or on the table by value, and keeps the table that it left for the next.
+pub fn run(name: &[u8], by_value: bool, dump: bool, mem: &mut [u8]) {
     let mut response = [FILL; MOST];
     let mut table_out = [FILL; MOST];
-    run_in(name, dump, mem, &mut response, &mut table_out);
+    run_in(name, by_value, dump, mem, &mut response, &mut table_out);
 }

@@ -1,3 +1,4 @@
+-- The third byte decides; a value without one reads as 0.
 use denote.Ref.{now}
 use native.Mathlib.Omega.{arith}
 use lib.ListN.{List·getD-eq-default}
@@ -8,11 +9,5 @@ use Rattle.fields.proofs.has_mode.Tie as tie
 returns : tie.Need-returns
 returns c = rw (List·getD-eq-default (now (c .before .args .v)) 0 {n = 2} (omega arith))
 
-shared-slice-read-result : tie.Need-shared-slice-read-result
-shared-slice-read-result c = search needs
-
-returns-2 : tie.Need-returns-2
-returns-2 c = search needs
-
 pub has-mode-spec : {M : Type 1} → statement M
-has-mode-spec = tie.close (tie.spec returns shared-slice-read-result returns-2)
+has-mode-spec = tie.close (tie.spec returns (λ c. search needs) (λ c. search needs))

@@ -1,60 +1,10 @@
+-- Each list of statuses is the definition's, written as bytes.
 use borrow.Author.Needs.{needs}
 use Rattle.fields.proofs.is_among.Statement.{statement}
 use Rattle.fields.proofs.is_among.Tie as tie
 
 enum-told : tie.Need-enum-told
 enum-told c = search needs
-
-slice-aggregate-is-status : tie.Need-slice-aggregate-is-status
-slice-aggregate-is-status c = search needs
-
-is-status-requires : tie.Need-is-status-requires
-is-status-requires c κs = search needs
-
-enum-told-2 : tie.Need-enum-told-2
-enum-told-2 c = search needs
-
-slice-aggregate-is-status-2 : tie.Need-slice-aggregate-is-status-2
-slice-aggregate-is-status-2 c = search needs
-
-is-status-requires-2 : tie.Need-is-status-requires-2
-is-status-requires-2 c κs = search needs
-
-enum-told-3 : tie.Need-enum-told-3
-enum-told-3 c = search needs
-
-slice-aggregate-is-status-3 : tie.Need-slice-aggregate-is-status-3
-slice-aggregate-is-status-3 c = search needs
-
-is-status-requires-3 : tie.Need-is-status-requires-3
-is-status-requires-3 c κs = search needs
-
-enum-told-4 : tie.Need-enum-told-4
-enum-told-4 c = search needs
-
-slice-aggregate-is-status-4 : tie.Need-slice-aggregate-is-status-4
-slice-aggregate-is-status-4 c = search needs
-
-is-status-requires-4 : tie.Need-is-status-requires-4
-is-status-requires-4 c κs = search needs
-
-enum-told-5 : tie.Need-enum-told-5
-enum-told-5 c = search needs
-
-slice-aggregate-is-status-5 : tie.Need-slice-aggregate-is-status-5
-slice-aggregate-is-status-5 c = search needs
-
-is-status-requires-5 : tie.Need-is-status-requires-5
-is-status-requires-5 c κs = search needs
-
-enum-told-6 : tie.Need-enum-told-6
-enum-told-6 c = search needs
-
-slice-aggregate-is-status-6 : tie.Need-slice-aggregate-is-status-6
-slice-aggregate-is-status-6 c = search needs
-
-is-status-requires-6 : tie.Need-is-status-requires-6
-is-status-requires-6 c κs = search needs
 
 returns : tie.Need-returns
 returns c = rw (c .before .before .enum-told .given .1) (c .is-status .ensures)
@@ -77,28 +27,7 @@ returns-6 c = rw (c .before .before .enum-told6 .given .1) (c .is-status6 .ensur
 pub is-among-spec : {M : Type 1} → statement M
 is-among-spec =
     tie.close
-    (tie.spec
-    enum-told
-    slice-aggregate-is-status
-    is-status-requires
-    enum-told-2
-    slice-aggregate-is-status-2
-    is-status-requires-2
-    enum-told-3
-    slice-aggregate-is-status-3
-    is-status-requires-3
-    enum-told-4
-    slice-aggregate-is-status-4
-    is-status-requires-4
-    enum-told-5
-    slice-aggregate-is-status-5
-    is-status-requires-5
-    enum-told-6
-    slice-aggregate-is-status-6
-    is-status-requires-6
-    returns
-    returns-2
-    returns-3
-    returns-4
-    returns-5
-    returns-6)
+    (tie.spec enum-told (λ c. search needs) (λ c κs. search needs) (λ c. search needs) (λ c. search needs) (λ c κs. search needs)
+    (λ c. search needs) (λ c. search needs) (λ c κs. search needs) (λ c. search needs) (λ c. search needs) (λ c κs. search needs)
+    (λ c. search needs) (λ c. search needs) (λ c κs. search needs) (λ c. search needs) (λ c. search needs) (λ c κs. search needs) returns
+    returns-2 returns-3 returns-4 returns-5 returns-6)

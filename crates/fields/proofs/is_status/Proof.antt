@@ -1,3 +1,4 @@
+-- After i turns the value is none of the first i statuses.
 use denote.Ref.{now}
 use mathlib.Core.Path.{_≡_, sym, _∙_}
 use mathlib.Core.List.{map}
@@ -17,29 +18,11 @@ Inv-loop v statuses i₀ i = (i ≤ length statuses) × (among v (map (le 2) sta
 abbrev μ-loop : tie.MeasureT-loop
 μ-loop v statuses i₀ i = length statuses - i
 
-loop-holds : tie.Need-loop-holds Inv-loop μ-loop
-loop-holds c = search needs
-
-shared-slice-read-t9 : tie.Need-shared-slice-read-t9 Inv-loop μ-loop
-shared-slice-read-t9 c = search needs
-
-slice-aggregate-same : tie.Need-slice-aggregate-same Inv-loop μ-loop
-slice-aggregate-same c = search needs
-
-same-requires : tie.Need-same-requires Inv-loop μ-loop
-same-requires c κs = search needs
-
 returns : tie.Need-returns Inv-loop μ-loop
 returns c =
     let l = c .before .before .before .before .before in
     let a = l .before .before .before .args in
     sym (l .loop .inv .1 ∙ status-at (now (a .v)) (now (a .statuses)) (l .loop .i) (omega arith) (omega (arith, c .before .before .before .shared-slice-known3 .given (l .loop .i))) (c .before .same .ensures) ∙ rw (c .if1 .taken))
-
-add-i : tie.Need-add-i Inv-loop μ-loop
-add-i c = search needs
-
-loop-less : tie.Need-loop-less Inv-loop μ-loop
-loop-less c = search needs
 
 loop-again : tie.Need-loop-again Inv-loop μ-loop
 loop-again c =
@@ -56,15 +39,5 @@ returns-2 c =
 pub is-status-spec : {M : Type 1} → statement M
 is-status-spec =
     tie.close
-    (tie.spec
-    Inv-loop
-    μ-loop
-    loop-holds
-    shared-slice-read-t9
-    slice-aggregate-same
-    same-requires
-    returns
-    add-i
-    loop-less
-    loop-again
-    returns-2)
+    (tie.spec Inv-loop μ-loop (λ c. search needs) (λ c. search needs) (λ c. search needs) (λ c κs. search needs) returns (λ c. search needs)
+    (λ c. search needs) loop-again returns-2)

@@ -1,16 +1,11 @@
+-- A name and a KeyID, and the end.
 use Rattle.layouts.proofs.PlaceLaws.{from-front, then-field, then-end}
 use borrow.Author.Needs.{needs}
 use Rattle.layouts.proofs.is_pair.Statement.{statement}
 use Rattle.layouts.proofs.is_pair.Tie as tie
 
-after-requires : tie.Need-after-requires
-after-requires c κs = search needs
-
-after-requires-2 : tie.Need-after-requires-2
-after-requires-2 c κs = search needs
-
 returns : tie.Need-returns
 returns c = from-front (then-field (c .before .after .ensures) (then-field (c .after2 .ensures) then-end))
 
 pub is-pair-spec : {M : Type 1} → statement M
-is-pair-spec = tie.close (tie.spec after-requires after-requires-2 returns)
+is-pair-spec = tie.close (tie.spec (λ c κs. search needs) (λ c κs. search needs) returns)

@@ -1,19 +1,14 @@
+-- 32 bytes over the front of as many zeros.
 use lib.Seq.{take-all}
 use mathlib.Core.Path.{_∙_}
 use native.Mathlib.Omega.{arith}
 use borrow.Author.Needs.{needs}
 use denote.Ref.{now}
 use Rattle.tlv.proofs.WriteLaws.{front}
-use Rattle.columns.specs.Firsts.{firsts}
-use Rattle.columns.proofs.FirstLaws.{firsts-take, firsts-over}
+use Rattle.tlv.specs.Firsts.{firsts}
+use Rattle.tlv.proofs.FirstLaws.{firsts-take, firsts-over}
 use Rattle.key_table.proofs.records.copy32.Statement.{statement}
 use Rattle.key_table.proofs.records.copy32.Tie as tie
-
-slice-aggregate-put-bytes : tie.Need-slice-aggregate-put-bytes
-slice-aggregate-put-bytes c = search needs
-
-put-bytes-requires : tie.Need-put-bytes-requires
-put-bytes-requires c κs = search needs
 
 returns : tie.Need-returns
 unfolding firsts
@@ -25,4 +20,4 @@ returns c =
     ∙ take-all 32 s (omega arith)
 
 pub copy32-spec : {M : Type 1} → statement M
-copy32-spec = tie.close (tie.spec slice-aggregate-put-bytes put-bytes-requires returns)
+copy32-spec = tie.close (tie.spec (λ c. search needs) (λ c κs. search needs) returns)

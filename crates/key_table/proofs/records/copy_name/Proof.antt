@@ -1,18 +1,13 @@
+-- A name over the front of zeros.
 use mathlib.Core.Path.{_∙_}
 use native.Mathlib.Omega.{arith}
 use borrow.Author.Needs.{needs}
 use denote.Ref.{now}
 use Rattle.tlv.proofs.WriteLaws.{front}
-use Rattle.columns.specs.Firsts.{firsts}
-use Rattle.columns.proofs.FirstLaws.{firsts-over}
+use Rattle.tlv.specs.Firsts.{firsts}
+use Rattle.tlv.proofs.FirstLaws.{firsts-over}
 use Rattle.key_table.proofs.records.copy_name.Statement.{statement}
 use Rattle.key_table.proofs.records.copy_name.Tie as tie
-
-slice-aggregate-put-bytes : tie.Need-slice-aggregate-put-bytes
-slice-aggregate-put-bytes c = search needs
-
-put-bytes-requires : tie.Need-put-bytes-requires
-put-bytes-requires c κs = search needs
 
 returns : tie.Need-returns
 unfolding firsts
@@ -21,4 +16,4 @@ returns c =
     front (c .before .put-bytes .ensures) .1 ∙ firsts-over 0 128 s (omega arith)
 
 pub copy-name-spec : {M : Type 1} → statement M
-copy-name-spec = tie.close (tie.spec slice-aggregate-put-bytes put-bytes-requires returns)
+copy-name-spec = tie.close (tie.spec (λ c. search needs) (λ c κs. search needs) returns)

@@ -1,11 +1,12 @@
+-- Zeros throughout.
 use mathlib.Core.Path.{refl}
-use Rattle.columns.specs.Firsts.{firsts}
-use Rattle.key_table.specs.Views.{spareRow}
+use Rattle.tlv.specs.Firsts.{firsts}
+use Rattle.key_table.specs.Views.{spareRecord}
 use Rattle.key_table.proofs.records.spare.Statement.{statement}
 use Rattle.key_table.proofs.records.spare.Tie as tie
 
 returns : tie.Need-returns
-unfolding firsts spareRow
+unfolding firsts spareRecord
 returns c = refl
 
 pub spare-spec : {M : Type 1} → statement M

@@ -1,3 +1,4 @@
+-- The part is as long as it says.
 use mathlib.Core.Path.{sym}
 use denote.Ref.{now}
 use lib.Seq.{length-take-le}
@@ -10,11 +11,5 @@ slice-aggregate-fits c =
     let s = c .before .before in
     sym (length-take-le (s .args .n) (now (s .args .v)) (s .pre))
 
-fits-requires : tie.Need-fits-requires
-fits-requires c κs = search needs
-
-returns : tie.Need-returns
-returns c = search needs
-
 pub is-name-spec : {M : Type 1} → statement M
-is-name-spec = tie.close (tie.spec slice-aggregate-fits fits-requires returns)
+is-name-spec = tie.close (tie.spec slice-aggregate-fits (λ c κs. search needs) (λ c. search needs))

@@ -1,3 +1,4 @@
+-- The types leave only the name to test.
 use mathlib.Core.Path.{sym, _∙_}
 use lib.ListN.{length-map}
 use native.Mathlib.Omega.{arith}
@@ -6,7 +7,7 @@ use Rattle.key_table.proofs.RuleLaws.{Typed, name-long, name-within}
 use Rattle.key_table.proofs.rules.record_ok.Statement.{statement}
 use Rattle.key_table.proofs.rules.record_ok.Tie as tie
 
--- the row's arrays and its counter are what their types say
+-- the record's arrays and its counter are what their types say
 typed : (s : tie.Start) → Typed (s .args .r)
 typed s =
     let g = s .good .0 .1 .1 in
@@ -20,13 +21,10 @@ typed s =
 returns : tie.Need-returns
 returns c = sym (name-long _ (typed (c .before)) (c .if1 .taken))
 
-is-name-in-requires : tie.Need-is-name-in-requires
-is-name-in-requires c κs = search needs
-
 returns-2 : tie.Need-returns-2
 returns-2 c =
     let s = c .before .before .before .before in
     c .is-name-in .ensures ∙ sym (name-within _ (typed s) (c .before .before .before .if1 .left))
 
 pub record-ok-spec : {M : Type 1} → statement M
-record-ok-spec = tie.close (tie.spec returns is-name-in-requires returns-2)
+record-ok-spec = tie.close (tie.spec returns (λ c κs. search needs) returns-2)

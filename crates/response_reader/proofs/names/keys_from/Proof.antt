@@ -1,3 +1,4 @@
+-- After each turn the KeyIDs of the pairs up to the place reached are placed.
 use borrow.Author.Needs.{needs}
 use Prim.Native.Nat.{_-_}
 use mathlib.Core.Path.{refl}
@@ -18,27 +19,12 @@ loop-holds c = keyed-none _ _ _ refl
 returns : tie.Need-returns Inv-loop μ-loop
 returns c = keyed-all (c .before .before .loop .inv) (c .if1 .taken)
 
-after-group-requires : tie.Need-after-group-requires Inv-loop μ-loop
-after-group-requires c κs = search needs
-
 returns-2 : tie.Need-returns-2 Inv-loop μ-loop
 returns-2 c =
     keyed-bad (c .before .before .before .before .loop .inv) (c .before .before .if1 .left) (c .before .after-group .ensures) (c .if2 .taken)
 
-sub-at : tie.Need-sub-at Inv-loop μ-loop
-sub-at c = omega (arith, pair-is (c .before .after-group .ensures) (c .if2 .left))
-
-mul-at : tie.Need-mul-at Inv-loop μ-loop
-mul-at c = search needs
-
-array-write-at : tie.Need-array-write-at Inv-loop μ-loop
-array-write-at c = search needs
-
-add-len : tie.Need-add-len Inv-loop μ-loop
-add-len c = search needs
-
-loop-less : tie.Need-loop-less Inv-loop μ-loop
-loop-less c = search needs
+sub-places : tie.Need-sub-places Inv-loop μ-loop
+sub-places c = omega (arith, pair-is (c .before .after-group .ensures) (c .if2 .left))
 
 loop-again : tie.Need-loop-again Inv-loop μ-loop
 loop-again c =
@@ -55,18 +41,5 @@ returns-4 c = keyed-all (c .before .before .loop .inv) (c .if3 .left)
 pub keys-from-spec : {M : Type 1} → statement M
 keys-from-spec =
     tie.close
-    (tie.spec
-    Inv-loop
-    μ-loop
-    loop-holds
-    returns
-    after-group-requires
-    returns-2
-    sub-at
-    mul-at
-    array-write-at
-    add-len
-    loop-less
-    loop-again
-    returns-3
-    returns-4)
+    (tie.spec Inv-loop μ-loop loop-holds returns (λ c κs. search needs) returns-2 sub-places (λ c. search needs) (λ c. search needs)
+    (λ c. search needs) (λ c. search needs) loop-again returns-3 returns-4)

@@ -1,3 +1,4 @@
+-- KRD, then what goes with one of the two attestation types.
 use mathlib.Core.Path.{refl, sym, _∙_}
 use Rattle.layouts.proofs.PlaceLaws.{then-group, from-front}
 use Rattle.response_reader.proofs.ShapeLaws.{then-assertion, either-is}
@@ -5,20 +6,8 @@ use borrow.Author.Needs.{needs}
 use Rattle.response_reader.proofs.shapes.is_registered.Statement.{statement}
 use Rattle.response_reader.proofs.shapes.is_registered.Tie as tie
 
-assertion-in-requires : tie.Need-assertion-in-requires
-assertion-in-requires c κs = search needs
-
-after-group-requires : tie.Need-after-group-requires
-after-group-requires c κs = search needs
-
-is-full-requires : tie.Need-is-full-requires
-is-full-requires c κs = search needs
-
 returns : tie.Need-returns
 returns c = either-is (sym (c .if1 .taken) ∙ from-front (then-assertion (c .before .before .before .assertion-in .ensures) (then-group (c .before .before .after-group .ensures) (record { given = c .before .is-full .ensures })))) refl
-
-is-surrogate-requires : tie.Need-is-surrogate-requires
-is-surrogate-requires c κs = search needs
 
 returns-2 : tie.Need-returns-2
 returns-2 c = either-is (sym (c .before .if1 .left) ∙ from-front (then-assertion (c .before .before .before .before .assertion-in .ensures) (then-group (c .before .before .before .after-group .ensures) (record { given = c .before .before .is-full .ensures })))) (from-front (then-assertion (c .before .before .before .before .assertion-in .ensures) (then-group (c .before .before .before .after-group .ensures) (record { given = c .is-surrogate .ensures }))))
@@ -26,10 +15,4 @@ returns-2 c = either-is (sym (c .before .if1 .left) ∙ from-front (then-asserti
 pub is-registered-spec : {M : Type 1} → statement M
 is-registered-spec =
     tie.close
-    (tie.spec
-    assertion-in-requires
-    after-group-requires
-    is-full-requires
-    returns
-    is-surrogate-requires
-    returns-2)
+    (tie.spec (λ c κs. search needs) (λ c κs. search needs) (λ c κs. search needs) returns (λ c κs. search needs) returns-2)

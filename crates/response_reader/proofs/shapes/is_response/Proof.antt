@@ -1,3 +1,4 @@
+-- The outer tag leaves the shapes of one command, which are tried one after the other.
 use denote.Ref.{now}
 use mathlib.Core.Path.{refl, sym, _∙_}
 use mathlib.Core.Bool.{or-false}
@@ -14,47 +15,17 @@ tag c = outer-tag (c .before .if1 .left) (c .get16 .ensures .value)
 returns : tie.Need-returns
 returns c = sym (short-is _ (c .if1 .taken))
 
-get16-requires : tie.Need-get16-requires
-get16-requires c κs = search needs
-
-is-status-requires : tie.Need-is-status-requires
-is-status-requires c κs = search needs
-
 returns-2 : tie.Need-returns-2
 returns-2 c = of-kind getInfo (tag (c .before .before .before)) (c .before .before .match .keys1) (sym (c .if2 .taken) ∙ c .before .is-status .ensures) refl
-
-is-info-requires : tie.Need-is-info-requires
-is-info-requires c κs = search needs
-
-is-status-requires-2 : tie.Need-is-status-requires-2
-is-status-requires-2 c κs = search needs
 
 returns-3 : tie.Need-returns-3
 returns-3 c = of-kind register (tag (c .before .before .before)) (c .before .before .match .keys2) (sym (c .if3 .taken) ∙ c .before .is-status2 .ensures) refl
 
-is-registered-requires : tie.Need-is-registered-requires
-is-registered-requires c κs = search needs
-
-is-status-requires-3 : tie.Need-is-status-requires-3
-is-status-requires-3 c κs = search needs
-
 returns-4 : tie.Need-returns-4
 returns-4 c = of-kind sign (tag (c .before .before .before)) (c .before .before .match .keys3) (sym (c .if4 .taken) ∙ c .before .is-status3 .ensures) refl
 
-is-signed-requires : tie.Need-is-signed-requires
-is-signed-requires c κs = search needs
-
 returns-5 : tie.Need-returns-5
 returns-5 c = of-kind sign (tag (c .before .before .before .before .before)) (c .before .before .before .before .match .keys3) (sym (c .before .before .if4 .left) ∙ c .before .before .before .is-status3 .ensures) (either-is (sym (c .if5 .taken) ∙ c .before .is-signed .ensures) refl)
-
-is-name-list-requires : tie.Need-is-name-list-requires
-is-name-list-requires c κs = search needs
-
-is-status-requires-4 : tie.Need-is-status-requires-4
-is-status-requires-4 c κs = search needs
-
-is-status-requires-5 : tie.Need-is-status-requires-5
-is-status-requires-5 c κs = search needs
 
 returns-6 : tie.Need-returns-6
 returns-6 c = of-kind getInfo (tag (c .before .before .before .before)) (c .before .before .before .match .keys1) (sym (c .before .if2 .left) ∙ c .before .before .is-status .ensures) (c .is-info .ensures)
@@ -77,25 +48,6 @@ returns-11 c = sym (other-is (tag (c .before)) (c .match .rest))
 pub is-response-spec : {M : Type 1} → statement M
 is-response-spec =
     tie.close
-    (tie.spec
-    returns
-    get16-requires
-    is-status-requires
-    returns-2
-    is-info-requires
-    is-status-requires-2
-    returns-3
-    is-registered-requires
-    is-status-requires-3
-    returns-4
-    is-signed-requires
-    returns-5
-    is-name-list-requires
-    is-status-requires-4
-    is-status-requires-5
-    returns-6
-    returns-7
-    returns-8
-    returns-9
-    returns-10
-    returns-11)
+    (tie.spec returns (λ c κs. search needs) (λ c κs. search needs) returns-2 (λ c κs. search needs) (λ c κs. search needs) returns-3
+    (λ c κs. search needs) (λ c κs. search needs) returns-4 (λ c κs. search needs) returns-5 (λ c κs. search needs) (λ c κs. search needs)
+    (λ c κs. search needs) returns-6 returns-7 returns-8 returns-9 returns-10 returns-11)

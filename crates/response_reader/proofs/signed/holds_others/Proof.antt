@@ -1,3 +1,4 @@
+-- The composite bit, or the tag AUTHENTICATOR_ASSERTION.
 use borrow.Author.Tests.{eq-eqb, ne-eqb}
 use Rattle.response_reader.proofs.signed.holds_others.Statement.{statement}
 use Rattle.response_reader.proofs.signed.holds_others.Tie as tie

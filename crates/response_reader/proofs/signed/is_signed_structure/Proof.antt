@@ -1,3 +1,4 @@
+-- One of the two tags.
 use borrow.Author.Tests.{eq-eqb, ne-eqb}
 use Rattle.response_reader.proofs.signed.is_signed_structure.Statement.{statement}
 use Rattle.response_reader.proofs.signed.is_signed_structure.Tie as tie

@@ -1,3 +1,4 @@
+-- After each turn no signed structure was met before the place reached.
 use borrow.Author.Needs.{needs}
 use native.Mathlib.Omega.{arith}
 use denote.Ref.{now}
@@ -21,13 +22,13 @@ abbrev μ-loop : tie.MeasureT-loop
 -- a TLV was found
 found : (c : tie.After-known-told Inv-loop μ-loop) → let h = c .before .h .given .0 in let l = c .before .before .before .before in
     IsTlv (now (l .before .before .args .s)) (l .loop .at) (h .0) (h .1 .0) (h .1 .1 .0)
-found c = tlv-is _ _ _ _ _ (sym (c .before .before .before .header .ensures) ∙ c .before .h .given .1)
+found c = tlv-is _ _ _ _ _ (sym (c .before .before .before .tlv-at .ensures) ∙ c .before .h .given .1)
 
 loop-holds : tie.Need-loop-holds Inv-loop μ-loop
 loop-holds c = signed-start _
 
-header-requires : tie.Need-header-requires Inv-loop μ-loop
-header-requires c κs = tt
+tlv-at-requires : tie.Need-tlv-at-requires Inv-loop μ-loop
+tlv-at-requires c κs = tt
 
 enum-told : tie.Need-enum-told Inv-loop μ-loop
 enum-told c = search needs
@@ -35,18 +36,12 @@ enum-told c = search needs
 returns : tie.Need-returns Inv-loop μ-loop
 returns c =
     let l = c .before .before .before .loop in
-    sym (l .inv ∙ signed-none _ _ (met-end _ _ (sym (c .before .before .header .ensures) ∙ c .enum-told .given .1)))
-
-enum-told-2 : tie.Need-enum-told-2 Inv-loop μ-loop
-enum-told-2 c = search needs
+    sym (l .inv ∙ signed-none _ _ (met-end _ _ (sym (c .before .before .tlv-at .ensures) ∙ c .enum-told .given .1)))
 
 returns-2 : tie.Need-returns-2 Inv-loop μ-loop
 returns-2 c =
     let l = c .before .before .before .loop in
-    sym (l .inv ∙ signed-none _ _ (met-bad _ _ (sym (c .before .before .header .ensures) ∙ c .enum-told2 .given .1)))
-
-enum-known-h : tie.Need-enum-known-h Inv-loop μ-loop
-enum-known-h c = search needs
+    sym (l .inv ∙ signed-none _ _ (met-bad _ _ (sym (c .before .before .tlv-at .ensures) ∙ c .enum-told2 .given .1)))
 
 returns-3 : tie.Need-returns-3 Inv-loop μ-loop
 returns-3 c =
@@ -84,20 +79,5 @@ loop-again-2 c = later (c .before) (c .if2 .left)
 pub signed-in-spec : {M : Type 1} → statement M
 signed-in-spec =
     tie.close
-    (tie.spec
-    Inv-loop
-    μ-loop
-    loop-holds
-    header-requires
-    enum-told
-    returns
-    enum-told-2
-    returns-2
-    enum-known-h
-    is-signed-structure-requires
-    returns-3
-    holds-others-requires
-    loop-less
-    loop-again
-    loop-less-2
-    loop-again-2)
+    (tie.spec Inv-loop μ-loop loop-holds tlv-at-requires enum-told returns (λ c. search needs) returns-2 (λ c. search needs)
+    is-signed-structure-requires returns-3 holds-others-requires loop-less loop-again loop-less-2 loop-again-2)

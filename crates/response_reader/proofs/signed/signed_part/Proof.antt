@@ -1,3 +1,4 @@
+-- Refusal 5 and nothing, or the signed structure's own bytes.
 use borrow.Author.Needs.{needs}
 use borrow.Author.Tests.{not-true, not-false}
 use mathlib.Core.Path.{refl, sym, _∙_}
@@ -6,23 +7,8 @@ use Rattle.response_reader.proofs.ReadingLaws.{signed-inside, read-sign
 use Rattle.response_reader.proofs.signed.signed_part.Statement.{statement}
 use Rattle.response_reader.proofs.signed.signed_part.Tie as tie
 
-is-response-requires : tie.Need-is-response-requires
-is-response-requires c κs = search needs
-
-sub-result : tie.Need-sub-result
-sub-result c = search needs
-
-part-result-start : tie.Need-part-result-start
-part-result-start c = search needs
-
-part-result-end : tie.Need-part-result-end
-part-result-end c = search needs
-
 returns : tie.Need-returns
 returns c = rw (not-read _ (sym (c .before .before .is-response .ensures) ∙ not-true _ (c .before .if1 .taken))) (refl, refl)
-
-signed-in-requires : tie.Need-signed-in-requires
-signed-in-requires c κs = search needs
 
 part-of-requires : tie.Need-part-of-requires
 part-of-requires c κs = rw (c .signed-in .ensures) (signed-inside _)
@@ -36,12 +22,5 @@ returns-2 c =
 pub signed-part-spec : {M : Type 1} → statement M
 signed-part-spec =
     tie.close
-    (tie.spec
-    is-response-requires
-    sub-result
-    part-result-start
-    part-result-end
-    returns
-    signed-in-requires
-    part-of-requires
-    returns-2)
+    (tie.spec (λ c κs. search needs) (λ c. search needs) (λ c. search needs) (λ c. search needs) returns (λ c κs. search needs)
+    part-of-requires returns-2)

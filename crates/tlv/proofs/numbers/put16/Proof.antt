@@ -1,3 +1,4 @@
+-- Two stores write the two lowest bytes.
 use mathlib.Core.Path.{refl}
 use denote.Ref.{now}
 use native.Mathlib.Omega.{arith}
@@ -8,29 +9,8 @@ use borrow.Author.Needs.{needs}
 use Rattle.tlv.proofs.numbers.put16.Statement.{statement}
 use Rattle.tlv.proofs.numbers.put16.Tie as tie
 
-split-requires : tie.Need-split-requires
-split-requires c κs = search needs
-
-array-read-out : tie.Need-array-read-out
-array-read-out c = search needs
-
-slice-write-out : tie.Need-slice-write-out
-slice-write-out c = search needs
-
-array-read-out-2 : tie.Need-array-read-out-2
-array-read-out-2 c = search needs
-
-add-out : tie.Need-add-out
-add-out c = search needs
-
 slice-write-out-2 : tie.Need-slice-write-out-2
 slice-write-out-2 c = simp length-set (omega arith)
-
-add-result : tie.Need-add-result
-add-result c = search needs
-
-same-length : tie.Need-same-length
-same-length c = search needs
 
 returns : tie.Need-returns
 unfolding le
@@ -41,13 +21,5 @@ returns c =
 pub put16-spec : {M : Type 1} → statement M
 put16-spec =
     tie.close
-    (tie.spec
-    split-requires
-    array-read-out
-    slice-write-out
-    array-read-out-2
-    add-out
-    slice-write-out-2
-    add-result
-    same-length
-    returns)
+    (tie.spec (λ c κs. search needs) (λ c. search needs) (λ c. search needs) (λ c. search needs) (λ c. search needs) slice-write-out-2
+    (λ c. search needs) (λ c. search needs) returns)

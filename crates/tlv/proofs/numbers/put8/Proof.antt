@@ -1,3 +1,4 @@
+-- One store writes the byte.
 use mathlib.Core.Path.{refl}
 use mathlib.Core.List.{[], _∷_}
 use denote.Ref.{now}
@@ -6,19 +7,10 @@ use borrow.Author.Needs.{needs}
 use Rattle.tlv.proofs.numbers.put8.Statement.{statement}
 use Rattle.tlv.proofs.numbers.put8.Tie as tie
 
-slice-write-out : tie.Need-slice-write-out
-slice-write-out c = search needs
-
-add-result : tie.Need-add-result
-add-result c = search needs
-
-same-length : tie.Need-same-length
-same-length c = search needs
-
 returns : tie.Need-returns
 returns c =
     let a = c .args in
     wrote-stores (a .b ∷ []) (now (a .out)) (a .at) _ (c .pre) refl
 
 pub put8-spec : {M : Type 1} → statement M
-put8-spec = tie.close (tie.spec slice-write-out add-result same-length returns)
+put8-spec = tie.close (tie.spec (λ c. search needs) (λ c. search needs) (λ c. search needs) returns)

@@ -1,3 +1,4 @@
+-- After each turn the TLVs up to the place reached are well formed; a composite's value is one level deeper.
 use borrow.Author.Needs.{needs}
 use native.Mathlib.Omega.{arith}
 use native.Mathlib.Nat.{pos-of-ne-zero}
@@ -14,7 +15,7 @@ use borrow.Fn.PlainCycle.{Measures, is, falls, and}
 use Rattle.tlv.proofs.reader.well_formed.Reads as well-formed
 use Rattle.tlv.proofs.reader.well_formed.Kinds as well-formed-kinds
 use Rattle.tlv.proofs.reader.+well_formed.Lts-well_formed as well-formed-lts
-use Rattle.tlv.proofs.walk.header.Reads as header-reads
+use Rattle.tlv.proofs.walk.tlv_at.Reads as tlv-at-reads
 use Rattle.tlv.proofs.reader.+well_formed.{statement}
 use Rattle.tlv.proofs.reader.+well_formed.Tie.{close}
 
@@ -30,7 +31,7 @@ well-formed-below t =
     and 1 well-formed-kinds.ps (falls 1 well-formed-kinds.ps _<_ μ-well-formed t) well-formed.Pre
 
 abbrev Cs : ℕ → well-formed-lts.Claims
-Cs t = (header-reads.Asked, header-reads.Learnt, well-formed-below t, well-formed.Post)
+Cs t = (tlv-at-reads.Asked, tlv-at-reads.Learnt, well-formed-below t, well-formed.Post)
 
 abbrev well-formed-Inv-loop : well-formed-lts.InvT-loop
 well-formed-Inv-loop s levels at₀ at =
@@ -45,7 +46,7 @@ Told t = well-formed-lts.After-known-told (Cs t) (well-formed-at t) well-formed.
 
 found : (t : ℕ) (c : Told t) → let h = c .before .h .given .0 in let l = c .before .before .before .before in
     IsTlv (now (l .before .before .before .args .s)) (l .loop .at) (h .0) (h .1 .0) (h .1 .1 .0)
-found t c = tlv-is _ _ _ _ _ (sym (c .before .before .before .header .ensures) ∙ c .before .h .given .1)
+found t c = tlv-is _ _ _ _ _ (sym (c .before .before .before .tlv-at .ensures) ∙ c .before .h .given .1)
 
 well-formed-returns : (t : ℕ) → well-formed-lts.Need-returns (Cs t) (well-formed-at t) well-formed.Post well-formed-Inv-loop well-formed-μ-loop
 well-formed-returns t c = sym (rw (c .if1 .taken) (well-none _))
@@ -53,8 +54,8 @@ well-formed-returns t c = sym (rw (c .if1 .taken) (well-none _))
 well-formed-loop-holds : (t : ℕ) → well-formed-lts.Need-loop-holds (Cs t) (well-formed-at t) well-formed.Post well-formed-Inv-loop well-formed-μ-loop
 well-formed-loop-holds t c = (search needs, well-run _ _ (c .if1 .left))
 
-well-formed-header-requires : (t : ℕ) → well-formed-lts.Need-header-requires (Cs t) (well-formed-at t) well-formed.Post well-formed-Inv-loop well-formed-μ-loop
-well-formed-header-requires t c κs = tt
+well-formed-tlv-at-requires : (t : ℕ) → well-formed-lts.Need-tlv-at-requires (Cs t) (well-formed-at t) well-formed.Post well-formed-Inv-loop well-formed-μ-loop
+well-formed-tlv-at-requires t c κs = tt
 
 well-formed-enum-told : (t : ℕ) → well-formed-lts.Need-enum-told (Cs t) (well-formed-at t) well-formed.Post well-formed-Inv-loop well-formed-μ-loop
 well-formed-enum-told t c = search needs
@@ -62,7 +63,7 @@ well-formed-enum-told t c = search needs
 well-formed-returns-2 : (t : ℕ) → well-formed-lts.Need-returns-2 (Cs t) (well-formed-at t) well-formed.Post well-formed-Inv-loop well-formed-μ-loop
 well-formed-returns-2 t c =
     let l = c .before .before .before .loop in
-    sym (l .inv .1 ∙ all-end _ _ _ (sym (c .before .before .header .ensures) ∙ c .enum-told .given .1))
+    sym (l .inv .1 ∙ all-end _ _ _ (sym (c .before .before .tlv-at .ensures) ∙ c .enum-told .given .1))
 
 well-formed-enum-told-2 : (t : ℕ) → well-formed-lts.Need-enum-told-2 (Cs t) (well-formed-at t) well-formed.Post well-formed-Inv-loop well-formed-μ-loop
 well-formed-enum-told-2 t c = search needs
@@ -70,7 +71,7 @@ well-formed-enum-told-2 t c = search needs
 well-formed-returns-3 : (t : ℕ) → well-formed-lts.Need-returns-3 (Cs t) (well-formed-at t) well-formed.Post well-formed-Inv-loop well-formed-μ-loop
 well-formed-returns-3 t c =
     let l = c .before .before .before .loop in
-    sym (l .inv .1 ∙ all-bad _ _ _ (sym (c .before .before .header .ensures) ∙ c .enum-told2 .given .1))
+    sym (l .inv .1 ∙ all-bad _ _ _ (sym (c .before .before .tlv-at .ensures) ∙ c .enum-told2 .given .1))
 
 well-formed-enum-known-h : (t : ℕ) → well-formed-lts.Need-enum-known-h (Cs t) (well-formed-at t) well-formed.Post well-formed-Inv-loop well-formed-μ-loop
 well-formed-enum-known-h t c = search needs
@@ -127,7 +128,7 @@ pub +well-formed-spec : {M : Type 1} → statement M
     well-formed-μ-loop
     (well-formed-returns t)
     (well-formed-loop-holds t)
-    (well-formed-header-requires t)
+    (well-formed-tlv-at-requires t)
     (well-formed-enum-told t)
     (well-formed-returns-2 t)
     (well-formed-enum-told-2 t)

@@ -1,3 +1,4 @@
+-- The first n bytes are the value.
 use mathlib.Core.Path.{_≡_, refl, sym, ap}
 use denote.Ref.{now}
 use Prim.Native.Nat.{ℕ, _+_}
@@ -20,14 +21,10 @@ put-tlv-requires c κs =
     let start = c .before .before .before .before in
     rw (long start) (start .pre .1)
 
-same-length : tie.Need-same-length
-same-length c = search needs
-
 returns : tie.Need-returns
 returns c =
     let call = c .before .before in
     same refl (ap (λ (k : ℕ). 4 + k) (long (call .before .before .before .before .before))) (call .put-tlv .ensures)
 
 pub put-tlv-part-spec : {M : Type 1} → statement M
-put-tlv-part-spec =
-    tie.close (tie.spec slice-aggregate-put-tlv put-tlv-requires same-length returns)
+put-tlv-part-spec = tie.close (tie.spec slice-aggregate-put-tlv put-tlv-requires (λ c. search needs) returns)

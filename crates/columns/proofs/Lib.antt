@@ -1,3 +1,0 @@
--- The laws of columns, and of lists that fill an array.
-pub mod ColumnLaws
-pub mod FirstLaws

@@ -1,3 +1,0 @@
--- What the contracts say of columns.
-pub mod Columns
-pub mod Firsts

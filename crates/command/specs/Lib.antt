@@ -1,5 +1,0 @@
--- Commands as the code reads them, in the words of `model`.
-pub mod Kinds
-pub mod Children
-pub mod Slots
-pub mod Parse

@@ -1,0 +1,52 @@
+-- What a command decides: a reply and a change, which together are the model's decision.
+use mathlib.Core.Path.{_≡_}
+use Prim.Native.Nat.{ℕ}
+use mathlib.Core.Bool.{Bool}
+use mathlib.Core.List.{List}
+use lib.Dec.{leb}
+use lib.ListN.{length, getD}
+use Rattle.model.specs.Lists.{among}
+use Rattle.model.specs.Tlv.{Kind, sign}
+use Rattle.model.specs.Records as records
+use Rattle.model.specs.Records.{own, keyIds, maxRecords}
+use Rattle.model.specs.Commands as model
+use Rattle.model.specs.Commands.{Lent, hasContent, signOne, decide}
+use Rattle.tlv.specs.declared.heads.Span.{Span}
+use Rattle.params.specs.Lent.{lentOf}
+use Rattle.params.specs.Parse.{ParamsRead}
+use Rattle.params.specs.declared.lent.Numbers.{Numbers}
+use Rattle.params.specs.declared.parse.Params.{Params}
+use Rattle.stored_table.specs.Stored.{noRecord}
+use Rattle.stored_table.specs.Changes.{changeOf, CanCount, Can}
+use Rattle.stored_table.specs.declared.left.Change.{Change}
+use Rattle.replies.specs.Replies.{answerOf, Challenge, Sound}
+use Rattle.replies.specs.declared.reply.Reply.{Reply}
+use Rattle.commands.specs.declared.decision.Decision.{Decision}
+
+-- of these two
+abbrev pub decision : Reply → Change → Decision
+decision r c = record { reply = r; change = c }
+
+-- the model's decision that this is, of a command s of this kind that is lent this, on this table
+abbrev pub decisionOf : Kind → List ℕ → Lent → records.Table → Decision → model.Decision
+decisionOf k s l t d = record { answer = answerOf k s l t (d .reply); change = changeOf s (l .keyId) t (d .change) }
+
+-- a command s of this kind, lent these numbers, the mixed token m and the KeyID key, decides so on a table, whatever else is lent; the reply can be
+-- written and the change made; c is where its challenge hash stands
+pub record Decides (k : Kind) (s : List ℕ) (n : Numbers) (m key : List ℕ) (t : records.Table) (c : Span) (d : Decision) : Type 0 where
+  pub is : (aaid metadata publicKey nonce hash : List ℕ)
+      → decisionOf k s (lentOf aaid n metadata m key publicKey nonce hash) t d
+      ≡ decide k s (lentOf aaid n metadata m key publicKey nonce hash) (own m t) (among key (keyIds t)) (leb maxRecords (length t))
+  pub sound : Sound k s t c (d .reply)
+  pub can : Can s key m t (d .change)
+
+-- the same of a command that looks at its parameters alone
+pub record DecidesAlways (k : Kind) (p : Params) (d : Decision) : Type 0 where
+  pub always : (s : List ℕ) (n : Numbers) (m key : List ℕ) (t : records.Table) → ParamsRead k s p
+      → Decides k s n m key t (p .«challenge_hash») d
+
+-- Sign's decision on one record, number i, with this count: of every command with content or without, lent this display result
+pub record DecidesOne (content : Bool) (display count i : ℕ) (d : Decision) : Type 0 where
+  pub one : (s : List ℕ) (l : Lent) (m : List ℕ) (t : records.Table) (c : Span) → hasContent s ≡ content → l .display ≡ display
+      → getD t i noRecord .count ≡ count → Challenge s c → CanCount m t i
+      → (decisionOf sign s l t d ≡ signOne s l (getD t i noRecord)) × Sound sign s t c (d .reply) × Can s (l .keyId) m t (d .change)

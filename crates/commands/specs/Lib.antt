@@ -1,0 +1,2 @@
+-- What the commands decide, in the words of `model`.
+pub mod Decisions

@@ -1,0 +1,119 @@
+use crate::decision::Decision;
+use crate::decision::Judged;
+use crate::decision::only;
+use crate::statuses::display_status;
+use crate::statuses::verdict_status;
+use params::lent::Numbers;
+use params::parse::Params;
+use replies::reply::Reply;
+use replies::reply::Shape;
+use replies::reply::plain;
+use replies::status::ACCESS_DENIED;
+use replies::status::ERR_UNKNOWN;
+use replies::status::PARAMS_INVALID;
+use stored_table::left::Change;
+use stored_table::lookups::choose;
+use stored_table::records::count_of;
+ghost use mathlib.Core.Path.{_≡_};
+ghost use Prim.Native.Nat.{ℕ};
+ghost use mathlib.Core.List.{List};
+ghost use Rattle.model.specs.Tlv.{sign};
+ghost use Rattle.model.specs.Commands.{judge, userChecks, oneChecks};
+ghost use Rattle.params.specs.Parse.{ParamsRead};
+ghost use Rattle.stored_table.specs.Stored.{Indexed, tableIn};
+ghost use Rattle.commands.specs.Decisions.{Decides, DecidesOne};
+ghost use Rattle.commands.specs.declared.decision.Judged.the-variants.{Fails, Passes};
+
+// Sign's statuses before the choice: a rule broken, then the verdict.
+fn judge_sign(broken: bool, verdict: u8) -> Judged
+    ensures { λ r. ⌜ r ≡ judge (userChecks broken verdict) Fails Passes ⌝ }
+{
+    if broken {
+        return Judged::Fails(PARAMS_INVALID);
+    }
+    if verdict != 0 {
+        return Judged::Fails(verdict_status(verdict));
+    }
+    Judged::Passes
+}
+
+// The display result, which counts with content only, then the counter.
+fn judge_one(content: bool, display: u8, count: u32) -> Judged
+    ensures { λ r. ⌜ r ≡ judge (oneChecks content display count) Fails Passes ⌝ }
+{
+    if content {
+        if display != 0 {
+            return Judged::Fails(display_status(display));
+        }
+    }
+    if count == u32::MAX {
+        return Judged::Fails(ERR_UNKNOWN);
+    }
+    Judged::Passes
+}
+
+// One is chosen, with this count: record i.
+fn sign_one(content: bool, display: u8, count: u32, i: usize) -> Decision
+    ensures { λ r. ⌜ DecidesOne content display count i r ⌝ }
+{
+    let judged = judge_one(content, display, count);
+    match judged {
+        Judged::Fails(status) => only(status),
+        Judged::Passes => {
+            let next = count + 1;
+            let reply = plain(Shape::Signed {
+                record: i,
+                count: next,
+                content,
+            });
+            Decision {
+                reply,
+                change: Change::SetCount {
+                    record: i,
+                    count: next,
+                },
+            }
+        }
+    }
+}
+
+// Sign: a status, the names of several, or signed data and a count raised.
+pub fn sign(
+    command: &[u8],
+    params: Params,
+    numbers: Numbers,
+    mixed: &[u8],
+    table: &[u8],
+    places: &[usize],
+) -> Decision
+    requires { ⌜ ParamsRead sign (now command) params ⌝ }
+    requires { ⌜ Indexed (now table) (now places) ⌝ }
+    ensures { λ r. ⌜
+        ((k : List ℕ) → Decides sign (now (command .entry)) numbers (now (mixed .entry)) k (tableIn (now (table .entry))) (params .«challenge_hash») r) ⌝ }
+{
+    let judged = judge_sign(params.broken, numbers.verdict);
+    match judged {
+        Judged::Fails(status) => only(status),
+        Judged::Passes => {
+            let handles = params.handles;
+            let named = choose(table, places, mixed, command, handles);
+            if named.len == 0 {
+                return only(ACCESS_DENIED);
+            }
+            if named.len == 1 {
+                let i = named.records[0];
+                let content = params.transaction_content;
+                let count = count_of(table, places[i]);
+                return sign_one(!content.is_empty(), numbers.display, count, i);
+            }
+            let reply = Reply {
+                shape: Shape::Names,
+                named,
+            };
+            Decision {
+                reply,
+                change: Change::Keep,
+            }
+        }
+    }
+}

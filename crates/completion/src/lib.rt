@@ -1,0 +1,104 @@
+// Completion: a draft and its signature become a response.
+mod writers;
+
+use crate::writers::put_full;
+use crate::writers::put_sign;
+use crate::writers::put_surrogate;
+use fields::Field;
+use fields::LEAST_OUTPUT;
+use fields::fits;
+use fields::tags;
+use layouts::Group;
+use layouts::after_group;
+ghost use mathlib.Core.Path.{_≡_};
+ghost use mathlib.Core.List.{[]};
+ghost use lib.ListN.{length};
+ghost use Rattle.model.specs.Complete.{isDraft, completionOk, complete};
+ghost use Rattle.completion.specs.Completions.{completion, ended, ends};
+
+// The kinds of completion.
+const REGISTRATION: u32 = 0;
+
+const SIGN: u32 = 1;
+
+// Whether a command can write this draft for this kind.
+fn is_draft(kind: u32, draft: &[u8]) -> bool
+    ensures { λ r. ⌜ r ≡ isDraft kind (now (draft .entry)) ⌝ }
+{
+    if kind == REGISTRATION {
+        return after_group(draft, 0, Group::Krd) == draft.len();
+    }
+    if kind != SIGN {
+        return false;
+    }
+    if after_group(draft, 0, Group::SignedContent) == draft.len() {
+        return true;
+    }
+    after_group(draft, 0, Group::SignedData) == draft.len()
+}
+
+// Whether signature, attestation type and certificate are what this kind takes.
+fn completion_ok(kind: u32, attestation: usize, signature: &[u8], certificate: &[u8]) -> bool
+    ensures { λ r. ⌜ r ≡ completionOk (completion kind [] attestation (now (signature .entry)) (now (certificate .entry)) 0) ⌝ }
+{
+    if !fits(Field::Signature, signature) {
+        return false;
+    }
+    if kind == SIGN {
+        return true;
+    }
+    if attestation == tags::BASIC_FULL {
+        return fits(Field::Certificate, certificate);
+    }
+    if attestation == tags::BASIC_SURROGATE {
+        return certificate.len() == 0;
+    }
+    false
+}
+
+// Document 01's numbers of the refusals, in the order in which they are checked.
+const SHORT_OUTPUT: u32 = 1;
+
+const NO_DRAFT: u32 = 5;
+
+const WRONG_RESULT: u32 = 4;
+
+// One refusal, by its number, or the length of the response that was written.
+pub enum Completed {
+    Refused(u32),
+    Wrote(usize),
+}
+
+// Completes a draft.
+pub fn complete(
+    kind: u32,
+    draft: &[u8],
+    attestation: usize,
+    signature: &[u8],
+    certificate: &[u8],
+    out: &mut [u8],
+) -> Completed
+    ensures { λ r. ⌜
+        ended r (now (out .exit))
+        ≡ ends
+        (complete
+        (completion kind (now (draft .entry)) attestation (now (signature .entry)) (now (certificate .entry)) (length (now (out .entry)))))
+        (now (out .entry)) ⌝ }
+{
+    if out.len() < LEAST_OUTPUT {
+        return Completed::Refused(SHORT_OUTPUT);
+    }
+    if !is_draft(kind, draft) {
+        return Completed::Refused(NO_DRAFT);
+    }
+    if !completion_ok(kind, attestation, signature, certificate) {
+        return Completed::Refused(WRONG_RESULT);
+    }
+    if kind == SIGN {
+        return Completed::Wrote(put_sign(out, draft, signature));
+    }
+    if attestation == tags::BASIC_FULL {
+        return Completed::Wrote(put_full(out, draft, signature, certificate));
+    }
+    Completed::Wrote(put_surrogate(out, draft, signature))
+}

@@ -1,3 +1,0 @@
--- The laws of the commands' code.
-pub mod JudgeLaws
-pub mod AnswerLaws

@@ -1,2 +1,0 @@
--- What a command decides, in the words of `model`.
-pub mod Answers

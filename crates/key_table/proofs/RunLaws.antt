@@ -1,0 +1,118 @@
+-- A call by value: the call on the form that its table is put into has the same result, and the table left is the one that is read again.
+-- Assumes nothing.
+use mathlib.Core.Path.{_≡_, refl, sym, ap, _∙_}
+use mathlib.Core.Bool.{Bool, true}
+use mathlib.Core.List.{List, []}
+use mathlib.Core.Option.{none, some, Option·getD}
+use Prim.Native.Nat.{ℕ, _≤_}
+use native.Mathlib.Omega.{arith}
+use lib.ListN.{length, take, drop}
+use lib.Seq.{take-at}
+use Rattle.model.specs.Records as model
+use Rattle.model.specs.Records.{maxStored, tableOk, encode, decode}
+use Rattle.model.specs.Commands.{Lent, Call, Given, value, stored, tableOf, refusals, perform, outcome, Result, refused, gave, Effect, bytesOf, over, Outputs, outputs}
+use Rattle.model.proofs.Basics.{impossible}
+use Rattle.model.proofs.StoredForm.{decode-encode, length-encode}
+use Rattle.model.proofs.Kept.{kept}
+use Rattle.params.specs.Lent.{call}
+use Rattle.authenticator.specs.Outcomes.{number, isDraft, Told, told, said, toldOf, outputsOf, Ended, ended, ends}
+use Rattle.authenticator.specs.declared.outcome.Refusal.{Refusal}
+use Rattle.authenticator.specs.declared.outcome.Outcome.{Outcome}
+use Rattle.authenticator.specs.declared.outcome.Outcome.the-variants.{Refused, Gave}
+use Rattle.key_table.specs.Forms.{FormIs, LoadedIs}
+use Rattle.key_table.specs.Runs.{Gives}
+use Rattle.key_table.specs.declared.records.Table.{Table}
+use Rattle.key_table.specs.declared.forms.Loaded.{Loaded}
+use Rattle.key_table.specs.declared.run.Answered.the-variants as answered
+
+-- ---- a result, by what is said of it
+
+refused-is : (o : Result Effect) {n : ℕ} → refused n ≡ toldOf o → o ≡ refused n
+refused-is (refused i) e = cc
+refused-is (gave f) e = impossible cc
+
+record Effected (o : Result Effect) (d : Bool) (n m : ℕ) : Type 0 where
+  effect : Effect
+  is : o ≡ gave effect
+  says : told d n m ≡ told (isDraft (effect .answer)) (length (bytesOf (effect .answer))) (length (encode (effect .left)))
+
+effected : (o : Result Effect) {d : Bool} {n m : ℕ} → gave (told d n m) ≡ toldOf o → Effected o d n m
+effected (refused i) e = impossible cc
+effected (gave f) e = record { effect = f; is = refl; says = cc }
+
+-- ---- a call
+
+-- a call said x and left both outputs so, where the table output was lent with these bytes
+pub record Called (c : Call) (g : Given) (x : Outcome) (out out′ left′ : List ℕ) : Type 0 where
+  pub lent : List ℕ
+  pub result : said x ≡ toldOf (outcome c g)
+  pub after : outputsOf out′ left′ ≡ outputs (outcome c g) (outputsOf out lent)
+
+-- a table output that is long enough is not looked at, nor in which form the table is handed
+same-outcome : (s : List ℕ) (l : Lent) (n : ℕ) (t : model.Table) (form : List ℕ) → decode form ≡ tableOf (value t)
+    → outcome (call s l n (some maxStored)) (stored form) ≡ outcome (call s l n none) (value t)
+unfolding outcome refusals perform tableOf
+same-outcome s l n t form e = rw e
+
+-- the call on the form that a table was put into
+pub called : {s : List ℕ} {l : Lent} {n : ℕ} {t : model.Table} {form : List ℕ} {k : ℕ} {x : Outcome} {out out′ left′ : List ℕ}
+    (lent : List ℕ) → FormIs t form k
+    → ended x out′ left′ ≡ ends (outcome (call s l n (some maxStored)) (stored (take k form))) (outputsOf out lent)
+    → Called (call s l n none) (value t) x out out′ left′
+unfolding ends
+called {s} {l} {n} {t} {form} {k} {out = out} lent f p =
+    let e = same-outcome s l n t (take k form) (f .view) in
+    record {
+      lent = lent;
+      result = ap (λ (y : Ended). y .result) p ∙ ap toldOf e;
+      after = ap (λ (y : Ended). y .after) p ∙ ap (λ (o : Result Effect). outputs o (outputsOf out lent)) e;
+    }
+
+module _ {c : Call} {g : Given} {x : Outcome} {out out′ left′ : List ℕ} (p : Called c g x out out′ left′) where
+  response-is : out′ ≡ outputs (outcome c g) (outputsOf out (p .lent)) .response
+  response-is = ap (λ (y : Outputs). y .response) (p .after)
+
+  -- after a refusal the table is the one that came
+  pub gives-refused : (t : Table) {r : Refusal} → x ≡ Refused r
+      → Gives (outcome c g) t out out′ (record { answered = answered.Refused r; table = t })
+  unfolding outputs
+  gives-refused t {r} e =
+      let k : outcome c g ≡ refused (number r) = refused-is (outcome c g) (sym (ap said e) ∙ p .result) in
+      record { says = rw k; output = response-is ∙ rw k; left = rw k; as-came = λ i h. refl; tidy = λ h. h }
+
+  -- else it is the one that is read again from its stored form
+  module _ {d : Bool} {n m : ℕ} (e : x ≡ Gave d n m) where
+    done : Effected (outcome c g) d n m
+    done = effected (outcome c g) (sym (ap said e) ∙ p .result)
+
+    abbrev left : model.Table
+    left = done .effect .left
+
+    left-ok : tableOk left ≡ true
+    left-ok = kept c g (done .effect) (done .is)
+
+    size-is : m ≡ length (encode left)
+    size-is = ap (λ (y : Told). y .table) (done .says)
+
+    pub left-fits : m ≤ maxStored
+    left-fits = omega (arith, size-is, length-encode left left-ok)
+
+    left-read : decode (take m left′) ≡ some left
+    unfolding outputs
+    left-read =
+        let s : List ℕ = encode left in
+        let f : left′ ≡ over s (p .lent) = ap (λ (y : Outputs). Option·getD (y .table) []) (p .after) ∙ rw (done .is) in
+        let h : take m left′ ≡ s = ap (take m) f ∙ take-at s (drop (length s) (p .lent)) m (sym size-is) in
+        ap decode h ∙ decode-encode left left-ok
+
+    pub gives-left : (t : Table) {r : Loaded} → LoadedIs (take m left′) r
+        → Gives (outcome c g) t out out′ (record { answered = answered.Gave d n; table = r .table })
+    unfolding outputs
+    gives-left t q =
+        record {
+          says = rw (done .is) (ap (λ (y : Told). gave (record { draft = y .draft; length = y .response })) (done .says));
+          output = response-is ∙ rw (done .is);
+          left = rw (done .is) (q .view ∙ rw left-read);
+          as-came = λ i h. impossible (cc (h, done .is));
+          tidy = λ h. q .tidy;
+        }

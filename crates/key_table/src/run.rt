@@ -1,0 +1,90 @@
+use crate::forms::load;
+use crate::forms::put_form;
+use crate::records::Table;
+use authenticator::call::call;
+use authenticator::outcome::Outcome;
+use authenticator::outcome::Refusal;
+use params::lent::Numbers;
+use stored_table::records::MAX_STORED;
+ghost use mathlib.Core.Path.{_≡_};
+ghost use mathlib.Core.Option.{none};
+ghost use lib.ListN.{length};
+ghost use Rattle.model.specs.Commands.{value, outcome};
+ghost use Rattle.params.specs.Lent.{lentOf, call};
+ghost use Rattle.key_table.specs.Views.{viewTable};
+ghost use Rattle.key_table.specs.Runs.{Gives};
+
+// One refusal; or what was written: a response or a draft, of this length.
+pub enum Answered {
+    Refused(Refusal),
+    Gave { draft: bool, len: usize },
+}
+
+// What a call by value gives, and the table that it leaves.
+pub struct Ran {
+    pub answered: Answered,
+    pub table: Table,
+}
+
+// Runs a call on a table by value. After a refusal the table is the very value that came.
+pub fn run(
+    command: &[u8],
+    aaid: &[u8],
+    numbers: Numbers,
+    metadata: &[u8],
+    mixed: &[u8],
+    key_id: &[u8],
+    public_key: &[u8],
+    nonce: &[u8],
+    hash: &[u8],
+    t: Table,
+    response: &mut [u8],
+) -> Ran
+    ensures { λ r. ⌜
+        Gives
+        (outcome
+        (call (now (command .entry))
+        (lentOf (now (aaid .entry)) numbers (now (metadata .entry)) (now (mixed .entry)) (now («key_id» .entry)) (now («public_key» .entry))
+        (now (nonce .entry)) (now (hash .entry))) (length (now (response .entry))) none)
+        (value (viewTable t)))
+        t (now (response .entry)) (now (response .exit)) r ⌝ }
+{
+    let mut form = [0u8; MAX_STORED];
+    let n = put_form(&mut form, t);
+    let mut left = [0u8; MAX_STORED];
+    let outcome = call(
+        command,
+        aaid,
+        numbers,
+        metadata,
+        mixed,
+        key_id,
+        public_key,
+        nonce,
+        hash,
+        &form[0..n],
+        response,
+        &mut left,
+    );
+    match outcome {
+        Outcome::Refused(r) => Ran {
+            answered: Answered::Refused(r),
+            table: t,
+        },
+        Outcome::Gave {
+            draft,
+            response_len,
+            table_len,
+        } => {
+            let loaded = load(&left[0..table_len]);
+            let table = loaded.table;
+            Ran {
+                answered: Answered::Gave {
+                    draft,
+                    len: response_len,
+                },
+                table,
+            }
+        }
+    }
+}

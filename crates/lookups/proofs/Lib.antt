@@ -1,2 +1,0 @@
--- The laws of lookups.
-pub mod LookupLaws

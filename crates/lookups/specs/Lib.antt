@@ -1,2 +1,0 @@
--- What a lookup finds.
-pub mod Chosen

@@ -1,0 +1,54 @@
+-- Where the fields of a command stand in it.
+use mathlib.Core.Path.{_≡_}
+use Prim.Native.Nat.{ℕ}
+use mathlib.Core.Bool.{true, false}
+use mathlib.Core.List.{List, [], _∷_}
+use Rattle.model.specs.Tlv as model
+use Rattle.model.specs.Tlv.{broken, fieldsIn, fieldIn}
+use Rattle.tlv.specs.Heads.{part}
+use Rattle.tlv.specs.Spans.{noSpan, partsIn, Inside, AllInside}
+use Rattle.tlv.specs.declared.heads.Span.{Span}
+use Rattle.tlv.specs.declared.heads.Spans.{Spans}
+use Rattle.params.specs.declared.parse.Params.{Params}
+
+-- a part of the command is the field's value; where an empty value's part stands is open
+pub record Placed (s : List ℕ) (f : model.Field) (p : Span) : Type 0 where
+  pub inside : Inside s p
+  pub value : part s p ≡ fieldIn f s
+
+-- the same of the key handles
+pub record HandlesPlaced (s : List ℕ) (ps : Spans) : Type 0 where
+  pub inside : AllInside s ps
+  pub values : partsIn s ps ≡ fieldsIn model.keyHandle s
+
+-- the same of every field
+pub record ParamsPlaced (s : List ℕ) (r : Params) : Type 0 where
+  pub app-id : Placed s model.appId (r .«app_id»)
+  pub challenge-hash : Placed s model.challengeHash (r .«challenge_hash»)
+  pub username : Placed s model.username (r .username)
+  pub attestation-type : Placed s model.attestationType (r .«attestation_type»)
+  pub access-token : Placed s model.accessToken (r .«access_token»)
+  pub key-id : Placed s model.keyIdOrNone (r .«key_id»)
+  pub transaction-content : Placed s model.transactionContent (r .«transaction_content»)
+  pub handles : HandlesPlaced s (r .handles)
+
+-- the answer to a command that breaks a rule
+abbrev pub noParams : Params
+noParams =
+    record {
+      broken = true;
+      «app_id» = noSpan;
+      «challenge_hash» = noSpan;
+      username = noSpan;
+      «attestation_type» = noSpan;
+      «access_token» = noSpan;
+      «key_id» = noSpan;
+      «transaction_content» = noSpan;
+      handles = record { at = noSpan ∷ noSpan ∷ noSpan ∷ noSpan ∷ noSpan ∷ noSpan ∷ noSpan ∷ noSpan ∷ []; len = 0 };
+    }
+
+-- what the reader gives for a command of this kind
+pub record ParamsRead (k : model.Kind) (s : List ℕ) (r : Params) : Type 0 where
+  pub broken-is : r .broken ≡ broken k s
+  pub if-broken : broken k s ≡ true → r ≡ noParams
+  pub unless-broken : broken k s ≡ false → ParamsPlaced s r

@@ -1,0 +1,119 @@
+-- Which answer of `model` a reply is, and how long its bytes are.
+use mathlib.Core.Path.{_≡_}
+use Prim.Native.Nat.{ℕ, _+_, _≤_, _<_}
+use mathlib.Core.Bool.{Bool, true, false, cond}
+use mathlib.Core.List.{List, [], _∷_}
+use lib.ListN.{length, getD}
+use Rattle.model.specs.Tlv.{le, Kind, getInfo, register, sign, challengeHash, fieldIn}
+use Rattle.model.specs.Layouts.{write}
+use Rattle.model.specs.Records.{Table}
+use Rattle.model.specs.Commands.{Lent, Answer, response, draft, statusOnly, infoResponse, nameResponse, registerDraft}
+use Rattle.tlv.specs.Heads.{part}
+use Rattle.tlv.specs.Spans.{Inside}
+use Rattle.tlv.specs.declared.heads.Span.{Span}
+use Rattle.params.specs.Lent.{numbersIn}
+use Rattle.stored_table.specs.Stored.{noRecord}
+use Rattle.stored_table.specs.Chosen.{ChosenOf, recordsAt}
+use Rattle.replies.specs.Writes.{signedDraft}
+use Rattle.replies.specs.declared.reply.Shape.{Shape}
+use Rattle.replies.specs.declared.reply.Shape.the-variants.{Status, Info, Names, Registration, Signed}
+use Rattle.replies.specs.declared.reply.Reply.{Reply}
+
+-- a reply that names no record
+abbrev pub plain : Shape → Reply
+plain x = record { shape = x; named = record { records = 0 ∷ 0 ∷ 0 ∷ 0 ∷ 0 ∷ 0 ∷ 0 ∷ 0 ∷ []; len = 0 } }
+
+-- ---- what it says to a command s of this kind that was lent this, on this table
+
+abbrev pub shapeAnswer : Kind → List ℕ → Lent → Table → Table → Shape → Answer
+shapeAnswer k s l t named (Status n) = response (write (statusOnly k) (le 2 n ∷ []))
+shapeAnswer k s l t named Info = response (infoResponse l)
+shapeAnswer k s l t named Names = response (nameResponse named)
+shapeAnswer k s l t named Registration = draft (registerDraft s l)
+shapeAnswer k s l t named (Signed i n content) =
+    draft (signedDraft content (l .aaid) (numbersIn l) (l .nonce) (fieldIn challengeHash s) (l .contentHash) (getD t i noRecord .keyId) n)
+
+unfoldable pub answerOf : Kind → List ℕ → Lent → Table → Reply → Answer
+answerOf k s l t r = shapeAnswer k s l t (recordsAt t (r .named)) (r .shape)
+
+-- whether that is a draft
+abbrev pub isDraft : Shape → Bool
+isDraft (Status n) = false
+isDraft Info = false
+isDraft Names = false
+isDraft Registration = true
+isDraft (Signed i n content) = true
+
+-- ---- how long its bytes are, by the lengths of challenge hash, public key and nonce and by the names of the records
+
+-- a name and a KeyID for each: three headers, the name and 32 bytes
+abbrev pub pairsSize : Table → ℕ
+pairsSize [] = 0
+pairsSize (r ∷ rs) = 44 + length (r .name) + pairsSize rs
+
+abbrev pub shapeSize : (challenge publicKey nonce : ℕ) → Table → Shape → ℕ
+shapeSize c p x named (Status n) = 10
+shapeSize c p x named Info = 94
+shapeSize c p x named Names = 10 + pairsSize named
+shapeSize c p x named Registration = 84 + c + p
+shapeSize c p x named (Signed i n content) = 78 + c + x + cond content 36 4
+
+unfoldable pub replySize : (challenge publicKey nonce : ℕ) → Table → Reply → ℕ
+replySize c p x t r = shapeSize c p x (recordsAt t (r .named)) (r .shape)
+
+-- ---- what a writer needs
+
+-- a part of the command is the challenge hash
+pub record Challenge (s : List ℕ) (c : Span) : Type 0 where
+  pub inside : Inside s c
+  pub value : part s c ≡ fieldIn challengeHash s
+  pub short : length (part s c) ≤ 32
+
+-- what a command answers for: its reply is one of its own, and what it is about is there
+abbrev pub SoundShape : Kind → List ℕ → Table → Span → Shape → Type 0
+SoundShape k s t c (Status n) = Unit {0}
+SoundShape k s t c Info = k ≡ getInfo
+SoundShape k s t c Names = Unit {0}
+SoundShape k s t c Registration = (k ≡ register) × Challenge s c
+SoundShape k s t c (Signed i n content) = (k ≡ sign) × Challenge s c × (i < length t)
+
+pub record Sound (k : Kind) (s : List ℕ) (t : Table) (c : Span) (r : Reply) : Type 0 where
+  pub named-there : ChosenOf t (r .named)
+  pub own-shape : SoundShape k s t c (r .shape)
+
+-- and that what is written of what is lent has the right length
+pub record KrdReady (s : List ℕ) (l : Lent) (c : Span) : Type 0 where
+  pub aaid : length (l .aaid) ≡ 9
+  pub challenge : Challenge s c
+  pub key-id : length (l .keyId) ≡ 32
+  pub public-key : length (l .publicKey) ≤ 512
+
+pub record SignedReady (s : List ℕ) (l : Lent) (t : Table) (c : Span) (i : ℕ) : Type 0 where
+  pub aaid : length (l .aaid) ≡ 9
+  pub nonce : length (l .nonce) ≤ 32
+  pub challenge : Challenge s c
+  pub hash : length (l .contentHash) ≡ 32
+  pub there : i < length t
+
+abbrev pub ReadyShape : List ℕ → Lent → Table → Span → Shape → Type 0
+ReadyShape s l t c (Status n) = Unit {0}
+ReadyShape s l t c Info = (length (l .aaid) ≡ 9) × (length (l .metadata) ≡ 15)
+ReadyShape s l t c Names = Unit {0}
+ReadyShape s l t c Registration = KrdReady s l c
+ReadyShape s l t c (Signed i n content) = SignedReady s l t c i
+
+pub record Ready (s : List ℕ) (l : Lent) (t : Table) (c : Span) (r : Reply) : Type 0 where
+  pub named-there : ChosenOf t (r .named)
+  pub ready-shape : ReadyShape s l t c (r .shape)
+
+-- the lengths that count are short
+abbrev pub ShortShape : (challenge publicKey nonce : ℕ) → Shape → Type 0
+ShortShape c p x (Status n) = Unit {0}
+ShortShape c p x Info = Unit {0}
+ShortShape c p x Names = Unit {0}
+ShortShape c p x Registration = (c ≤ 32) × (p ≤ 512)
+ShortShape c p x (Signed i n content) = (c ≤ 32) × (x ≤ 32)
+
+pub record Short (challenge publicKey nonce : ℕ) (t : Table) (r : Reply) : Type 0 where
+  pub named-there : ChosenOf t (r .named)
+  pub short-shape : ShortShape challenge publicKey nonce (r .shape)

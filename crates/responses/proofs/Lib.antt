@@ -1,2 +1,0 @@
--- The laws of the writers.
-pub mod WriterLaws

@@ -1,2 +1,0 @@
--- The laws of Sign.
-pub mod SignLaws

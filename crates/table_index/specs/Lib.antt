@@ -1,2 +1,0 @@
--- What a reader of a stored table finds.
-pub mod Places

@@ -1,0 +1,100 @@
+-- What the entries of completion and reader return, from what the functions below them give.
+-- Assumes nothing.
+use mathlib.Core.Path.{_≡_, ap, _∙_}
+use mathlib.Core.Bool.{true, false}
+use mathlib.Core.List.{List}
+use Prim.Native.Nat.{ℕ, _+_, _-_, _≤_}
+use native.Mathlib.Omega.{arith}
+use lib.ListN.{length, take}
+use lib.Seq.{take-all}
+use Rattle.model.specs.Commands.{Result, refused, gave}
+use Rattle.model.specs.Reader.{Stretch, isResponse, readResponse}
+use Rattle.model.proofs.Basics.{split, impossible}
+use Rattle.model.proofs.Refusals.{not-read}
+use Rattle.tlv.specs.declared.heads.Span.{Span}
+use Rattle.completion.specs.Completions.{Ended, ended, ends}
+use Rattle.completion.specs.declared.Completed.{Completed}
+use Rattle.completion.specs.declared.Completed.the-variants.{Refused, Wrote}
+use Rattle.response_reader.specs.Met.{met, fieldsMet, spanOf, signedMet}
+use Rattle.response_reader.specs.Readings.{partsOf, readingOf}
+use Rattle.response_reader.specs.declared.readings.Reading.{Reading}
+use Rattle.response_reader.proofs.ReadingLaws.{firstSigned, signed-inside, response-is, few-fields}
+use Rattle.token.specs.Responses.{wrote, completedAs, points, pointed, ReturnedFields, getsFields, returnedFields}
+
+-- ---- completion
+
+-- of what it gave: the number of a refusal, or a length
+module _ (out : List ℕ) {out′ : List ℕ} (n len : ℕ) where
+  refused-as : (q : Result (List ℕ)) → ended (Refused n) out′ ≡ ends q out → wrote n len out′ ≡ completedAs q (wrote 0 len out)
+  unfolding ends completedAs
+  refused-as (refused m) e =
+      let r = ap (λ (x : Ended). x .result) e in
+      let o = ap (λ (x : Ended). x .response) e in
+      let k : n ≡ m = cc in
+      rw (k, o)
+  refused-as (gave s) e =
+      let r = ap (λ (x : Ended). x .result) e in
+      impossible cc
+
+  wrote-as : (q : Result (List ℕ)) → ended (Wrote n) out′ ≡ ends q out → wrote 0 n out′ ≡ completedAs q (wrote 0 len out)
+  unfolding ends completedAs
+  wrote-as (refused m) e =
+      let r = ap (λ (x : Ended). x .result) e in
+      impossible cc
+  wrote-as (gave s) e =
+      let r = ap (λ (x : Ended). x .result) e in
+      let o = ap (λ (x : Ended). x .response) e in
+      let k : n ≡ length s = cc in
+      rw (k, o)
+
+  module _ (q : Result (List ℕ)) {done : Completed} (e : ended done out′ ≡ ends q out) where
+    pub complete-refused : done ≡ Refused n → wrote n len out′ ≡ completedAs q (wrote 0 len out)
+    complete-refused d = refused-as q (rw d at e)
+
+    pub complete-wrote : done ≡ Wrote n → wrote 0 n out′ ≡ completedAs q (wrote 0 len out)
+    complete-wrote d = wrote-as q (rw d at e)
+
+-- ---- the signed structure
+
+pub point-refused : (s : List ℕ) (p n : ℕ) → isResponse s ≡ false → points 5 p n ≡ pointed (readResponse s) (points 0 p n)
+unfolding pointed
+point-refused s p n e = rw (not-read s e)
+
+pub point-ordered : (s : List ℕ) {r : Span} → r ≡ signedMet s → r .start ≤ r .end
+point-ordered s e = rw e (signed-inside s .ordered)
+
+-- a stretch as a part, told by its place and its length
+stretch-as : (x : Stretch) → points 0 (spanOf x .start) (spanOf x .end - spanOf x .start) ≡ points 0 (x .place) (x .size)
+stretch-as x = let e : x .place + x .size - x .place ≡ x .size = omega arith in rw e
+
+pub point-gave : (s : List ℕ) (p n : ℕ) {r : Span} → isResponse s ≡ true → r ≡ signedMet s
+    → points 0 (r .start) (r .end - r .start) ≡ pointed (readResponse s) (points 0 p n)
+unfolding pointed
+point-gave s p n e f = rw (response-is s e, f) (stretch-as (firstSigned (met s 0)))
+
+-- ---- the fields
+
+list-not : (s : List ℕ) {r : Reading} → r ≡ readingOf (readResponse s) → isResponse s ≡ false → r .refusal ≡ 5
+unfolding readingOf
+list-not s f e = ap (λ (x : Reading). x .refusal) f ∙ rw (not-read s e)
+
+list-is : (s : List ℕ) {r : Reading} → r ≡ readingOf (readResponse s) → isResponse s ≡ true → r .refusal ≡ 0
+unfolding readingOf
+list-is s f e = ap (λ (x : Reading). x .refusal) f ∙ rw (response-is s e)
+
+module _ (s : List ℕ) {r : Reading} (f : r ≡ readingOf (readResponse s)) (b : ReturnedFields) where
+  pub list-refused : (r .refusal ≡ 0 → ⊥)
+      → getsFields (r .refusal) (b .tag) (b .status) (b .count) (b .tags) (b .places) (b .lengths) ≡ returnedFields (readResponse s) b
+  unfolding returnedFields
+  list-refused h =
+      split (isResponse s) (λ e. absurd (h (list-is s f e))) (λ e. rw (list-not s f e, not-read s e))
+
+  pub list-gave : r .refusal ≡ 0
+      → getsFields 0 (r .tag) (r .status) (r .parts .len) (r .parts .tags) (r .parts .places) (r .parts .lengths)
+      ≡ returnedFields (readResponse s) b
+  unfolding returnedFields readingOf partsOf
+  list-gave h =
+      split (isResponse s)
+      (λ e. let k : length (take 17 (fieldsMet s)) ≡ length (fieldsMet s) = ap length (take-all 17 (fieldsMet s) (few-fields s e)) in
+      rw (f, response-is s e, k))
+      (λ e. let k = list-not s f e in absurd (omega arith))

@@ -1,0 +1,191 @@
+// Calls on a table by value. The table in its slot is loaded, spoilt if the script asks for it, and handed to the call; the table that comes
+// back is stored again. The line is one of these, where SUM is a sum of a whole output that is untouched:
+//   NAME: load N                            the slot has the stored form of no table, and nothing is called
+//   NAME: by value, refusal N SUM           the call is refused; then what storing the table that came back gives
+//   NAME: by value, response or draft ..    what was written into the response output; then the same
+// and the table that came back is told by ` table ..`, what was written of its stored form, or by ` store N SUM`, if storing is refused.
+use crate::numbers_in;
+use crate::write_kind;
+use authenticator::outcome::number_of;
+use key_table::forms::Stored;
+use key_table::forms::load;
+use key_table::forms::store;
+use key_table::records::Table;
+use key_table::run::Answered;
+use key_table::run::Ran;
+use key_table::run::run;
+use script::slots;
+use script::slots::AAID;
+use script::slots::COMMAND;
+use script::slots::HASH;
+use script::slots::KEY_ID;
+use script::slots::METADATA;
+use script::slots::MIXED;
+use script::slots::NONCE;
+use script::slots::PUBLIC_KEY;
+use script::slots::SPOILT;
+use script::slots::TABLE;
+use script::slots::arg;
+use script::slots::number;
+use script::text::adler;
+use script::text::write_next;
+use script::text::write_written;
+
+// The first record's name says that it has n bytes.
+fn with_name_len(t: Table, n: usize) -> Table {
+    let mut records = t.records;
+    let mut first = records[0];
+    first.name_len = n;
+    records[0] = first;
+    Table {
+        records,
+        len: t.len,
+    }
+}
+
+// The second record has the first one's KeyID.
+fn with_key_twice(t: Table) -> Table {
+    let mut records = t.records;
+    let first = records[0];
+    let key_id = first.key_id;
+    let mut second = records[1];
+    second.key_id = key_id;
+    records[1] = second;
+    Table {
+        records,
+        len: t.len,
+    }
+}
+
+// Every record has the first one's mixed token.
+fn with_one_mixed(t: Table) -> Table {
+    let mut records = t.records;
+    let first = records[0];
+    let mixed = first.mixed;
+    let mut i = 0;
+    while i < 32 {
+        let mut r = records[i];
+        r.mixed = mixed;
+        records[i] = r;
+        i += 1;
+    }
+    Table {
+        records,
+        len: t.len,
+    }
+}
+
+// Spoils a table, so that it breaks a rule, as a value can and a stored form that loads cannot. The number says which rule; with any other number
+// the table stays as it is.
+fn spoil(t: Table, how: usize) -> Table {
+    let records = t.records;
+    match how {
+        1 => Table { records, len: 33 },
+        2 => with_name_len(t, 0),
+        3 => with_name_len(t, 129),
+        4 => with_key_twice(t),
+        5 => with_one_mixed(t),
+        _ => t,
+    }
+}
+
+// Calls with the arguments in the slots, a table and the response output.
+fn call(mem: &[u8], t: Table, response: &mut [u8]) -> Ran {
+    run(
+        arg(mem, COMMAND),
+        arg(mem, AAID),
+        numbers_in(mem),
+        arg(mem, METADATA),
+        arg(mem, MIXED),
+        arg(mem, KEY_ID),
+        arg(mem, PUBLIC_KEY),
+        arg(mem, NONCE),
+        arg(mem, HASH),
+        t,
+        response,
+    )
+}
+
+// Says what was refused, by which number, and a sum of the output.
+fn tell_refusal(what: &[u8], code: u32, out: &[u8]) {
+    io::write_all(1, what);
+    write_next(code as usize);
+    write_next(adler(out));
+}
+
+// Says what the call gave.
+fn tell_answered(answered: Answered, response: &[u8]) {
+    match answered {
+        Answered::Refused(r) => tell_refusal(b"refusal", number_of(r), response),
+        Answered::Gave { draft, len } => {
+            write_kind(draft as u32);
+            write_written(response, len, true);
+        }
+    }
+}
+
+// Says what storing the table gave.
+fn tell_stored(stored: Stored, table_out: &[u8], dump: bool) {
+    match stored {
+        Stored::Refused(r) => tell_refusal(b" store", number_of(r), table_out),
+        Stored::Wrote(n) => {
+            io::write_all(1, b" table");
+            write_written(table_out, n, dump);
+        }
+    }
+}
+
+// Keeps the stored form for the next call, if there is one and the call was not refused.
+fn keep(answered: Answered, stored: Stored, table_out: &[u8], mem: &mut [u8]) {
+    if let Answered::Refused(_) = answered {
+        return;
+    }
+    let Stored::Wrote(n) = stored else {
+        return;
+    };
+    slots::store(table_out, n, TABLE, mem);
+}
+
+// Calls with a table, stores the one that came back and says what both gave.
+fn run_on(t: Table, dump: bool, mem: &mut [u8], response: &mut [u8], table_out: &mut [u8]) {
+    let ran = call(mem, t, response);
+    let answered = ran.answered;
+    tell_answered(answered, response);
+    let left = ran.table;
+    let stored = store(left, table_out);
+    tell_stored(stored, table_out, dump);
+    keep(answered, stored, table_out, mem);
+}
+
+// Loads the table in its slot, and calls if there is one.
+fn load_and_run(dump: bool, mem: &mut [u8], response: &mut [u8], table_out: &mut [u8]) {
+    let loaded = load(arg(mem, TABLE));
+    if loaded.refusal != 0 {
+        io::write_all(1, b"load");
+        write_next(loaded.refusal as usize);
+        return;
+    }
+    io::write_all(1, b"by value, ");
+    let t = loaded.table;
+    run_on(
+        spoil(t, number(mem, SPOILT)),
+        dump,
+        mem,
+        response,
+        table_out,
+    );
+}
+
+// Runs a command by value, writes its line and keeps the table left.
+pub fn run_by_value(
+    name: &[u8],
+    dump: bool,
+    mem: &mut [u8],
+    response: &mut [u8],
+    table_out: &mut [u8],
+) {
+    io::write_all(1, name);
+    io::write_all(1, b": ");
+    load_and_run(dump, mem, response, table_out);
+    io::write_all(1, b"\n");
+}
