@@ -30,9 +30,7 @@ use Rattle.stored_table.specs.Index.{IndexIs}
 use Rattle.stored_table.specs.Changes.{changeOf}
 use Rattle.stored_table.specs.declared.index.Index.{Index}
 use Rattle.replies.specs.Replies as replies
-use Rattle.replies.specs.Replies.{answerOf, replySize, ReadyShape, Ready, Short}
-use Rattle.replies.specs.declared.reply.Shape.{Shape}
-use Rattle.replies.specs.declared.reply.Shape.the-variants.{Status, Info, Names, Registration, Signed}
+use Rattle.replies.specs.Replies.{answerOf, replySize, Ready, Short}
 use Rattle.replies.specs.declared.reply.Reply.{Reply}
 use Rattle.replies.proofs.ReplyLaws.{draft-is, ready, short, size-most}
 use Rattle.commands.specs.Decisions.{Decides}
@@ -99,21 +97,10 @@ module _ {k : tlv.Kind} {s : List ℕ} {n : Numbers} {m key : List ℕ} {t : Tab
   abbrev l : Lent
   l = lentOf aaid n metadata m key publicKey nonce hash
 
-  -- no writer looks at the mixed token
-  other-mixed : (x : List ℕ) (y : Shape) → ReadyShape s l t c y → ReadyShape s (lentOf aaid n metadata x key publicKey nonce hash) t c y
-  other-mixed x (Status i) q = tt
-  other-mixed x Info q = q
-  other-mixed x Names q = tt
-  other-mixed x Registration q = record { aaid = q .aaid; challenge = q .challenge; key-id = q .key-id; public-key = q .public-key }
-  other-mixed x (Signed i w content) q =
-      record { aaid = q .aaid; nonce = q .nonce; challenge = q .challenge; hash = q .hash; there = q .there }
-
   module _ (h : lentOk k l ≡ true) where
-    -- the reply can be written, whatever mixed token is named
+    -- the reply can be written, whatever mixed token is named: no writer looks at it
     pub reply-ready : (x : List ℕ) → Ready s (lentOf aaid n metadata x key publicKey nonce hash) t c (d .reply)
-    reply-ready x =
-        let q : Ready s l t c (d .reply) = ready h (p .sound) in
-        record { named-there = q .named-there; ready-shape = other-mixed x (d .reply .shape) (q .ready-shape) }
+    reply-ready x = ready l x h (p .sound)
 
     pub reply-short : Short (c .end - c .start) (length publicKey) (length nonce) t (d .reply)
     reply-short = short (reply-ready m)

@@ -23,7 +23,7 @@ ghost use lib.ListN.{length, take};
 ghost use Rattle.model.specs.Lists.{all};
 ghost use Rattle.model.specs.Records.{recordOk, maxRecords, encode, maxStored};
 ghost use Rattle.tlv.specs.Writing.{Wrote};
-ghost use Rattle.stored_table.specs.Stored.{besideName, Stands, recordAt, Indexed, tableIn};
+ghost use Rattle.stored_table.specs.Stored.{besideName, recordAt, Indexed, tableIn};
 ghost use Rattle.key_table.specs.Views.{viewRecord, viewTable, TidyRecord, Tidy};
 ghost use Rattle.key_table.specs.Forms.{FormIs, stores, stored, LoadedIs, ValueAt};
 

@@ -6,7 +6,6 @@ use authenticator::outcome::Outcome;
 use authenticator::outcome::Refusal;
 use params::lent::Numbers;
 use stored_table::records::MAX_STORED;
-ghost use mathlib.Core.Path.{_≡_};
 ghost use mathlib.Core.Option.{none};
 ghost use lib.ListN.{length};
 ghost use Rattle.model.specs.Commands.{value, outcome};

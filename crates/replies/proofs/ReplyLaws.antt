@@ -2,7 +2,7 @@
 -- Assumes nothing.
 use mathlib.Core.Path.{_≡_, refl, sym, ap, _∙_}
 use mathlib.Core.Bool.{Bool, true, false, cond}
-use mathlib.Core.List.{List, [], append-assoc}
+use mathlib.Core.List.{List, append-assoc}
 use Prim.Native.Nat.{ℕ, _+_, _-_, _≤_}
 use native.Mathlib.Numerals.{add-one}
 use native.Mathlib.Omega.{arith}
@@ -16,9 +16,8 @@ use Rattle.model.proofs.LentLaws.{ProfileRules, RegisterRules, SignRules, lent-
 use Rattle.tlv.specs.Writing.{Wrote}
 use Rattle.tlv.specs.declared.heads.Span.{Span}
 use Rattle.tlv.proofs.HeadLaws.{length-part}
-use Rattle.params.specs.Lent.{numbersIn}
+use Rattle.params.specs.Lent.{lentOf, numbersIn}
 use Rattle.stored_table.specs.Chosen.{ChosenOf, recordsAt}
-use Rattle.stored_table.specs.declared.lookups.Chosen.{Chosen}
 use Rattle.replies.specs.Writes.{infoWritten, krd, signedDraft, pairsOf}
 use Rattle.replies.specs.Replies.{plain, shapeAnswer, answerOf, isDraft, pairsSize, shapeSize, replySize, Challenge, SoundShape, Sound, ReadyShape, Ready, ShortShape, Short}
 use Rattle.replies.specs.declared.reply.Shape.{Shape}
@@ -29,15 +28,6 @@ use Rattle.replies.proofs.PairLaws.{Sized, sized}
 -- ---- which answer it is
 
 module _ (k : Kind) (s : List ℕ) (l : Lent) (t : Table) where
-  -- a reply that names no record, by its shape: a status, the information, a draft
-  pub plain-answer : (x : Shape) → answerOf k s l t (plain x) ≡ shapeAnswer k s l t [] x
-  unfolding answerOf
-  plain-answer x = refl
-
-  pub names-answer : (c : Chosen) → answerOf k s l t (record { shape = Names; named = c }) ≡ response (nameResponse (recordsAt t c))
-  unfolding answerOf
-  names-answer c = refl
-
   shape-draft : (named : Table) (x : Shape)
       → shapeAnswer k s l t named x
       ≡ cond (isDraft x) (draft (bytesOf (shapeAnswer k s l t named x))) (response (bytesOf (shapeAnswer k s l t named x)))
@@ -73,9 +63,13 @@ sign-draft s l r = rw add-one
 
 -- ---- what a writer needs
 
+-- with another mixed token, at which no writer looks
+abbrev pub lentTo : List ℕ → Lent → Lent
+lentTo m l = lentOf (l .aaid) (numbersIn l) (l .metadata) m (l .keyId) (l .publicKey) (l .nonce) (l .contentHash)
+
 -- what is lent has the right lengths for the command that it is lent to
-module _ (k : Kind) (s : List ℕ) (l : Lent) (t : Table) (c : Span) (ok : lentOk k l ≡ true) where
-  shape-ready : (x : Shape) → SoundShape k s t c x → ReadyShape s l t c x
+module _ (k : Kind) (s : List ℕ) (l : Lent) (m : List ℕ) (t : Table) (c : Span) (ok : lentOk k l ≡ true) where
+  shape-ready : (x : Shape) → SoundShape k s t c x → ReadyShape s (lentTo m l) t c x
   shape-ready (Status n) h = tt
   shape-ready Info h =
       let p : ProfileRules l = lent-rules getInfo l (rw h at ok) in
@@ -88,9 +82,10 @@ module _ (k : Kind) (s : List ℕ) (l : Lent) (t : Table) (c : Span) (ok : lentO
       let p : SignRules l = lent-rules sign l (rw (h .0) at ok) in
       record { aaid = p .profile .aaid; nonce = p .nonce-most; challenge = h .1; hash = p .hash; there = h .2 }
 
-pub ready : {k : Kind} {s : List ℕ} {l : Lent} {t : Table} {c : Span} {r : Reply} → lentOk k l ≡ true → Sound k s t c r → Ready s l t c r
-ready {k} {s} {l} {t} {c} {r} ok h =
-    record { named-there = h .named-there; ready-shape = shape-ready k s l t c ok (r .shape) (h .own-shape) }
+pub ready : {k : Kind} {s : List ℕ} (l : Lent) {t : Table} {c : Span} {r : Reply} (m : List ℕ) → lentOk k l ≡ true → Sound k s t c r
+    → Ready s (lentTo m l) t c r
+ready {k} {s} l {t} {c} {r} m ok h =
+    record { named-there = h .named-there; ready-shape = shape-ready k s l m t c ok (r .shape) (h .own-shape) }
 
 -- the challenge hash is as long as the part that it is
 module _ {s : List ℕ} {c : Span} (h : Challenge s c) where

@@ -82,25 +82,25 @@ pub record Sound (k : Kind) (s : List ℕ) (t : Table) (c : Span) (r : Reply) : 
   pub own-shape : SoundShape k s t c (r .shape)
 
 -- and that what is written of what is lent has the right length
-pub record KrdReady (s : List ℕ) (l : Lent) (c : Span) : Type 0 where
-  pub aaid : length (l .aaid) ≡ 9
+pub record KrdReady (s a k p : List ℕ) (c : Span) : Type 0 where
+  pub aaid : length a ≡ 9
   pub challenge : Challenge s c
-  pub key-id : length (l .keyId) ≡ 32
-  pub public-key : length (l .publicKey) ≤ 512
+  pub key-id : length k ≡ 32
+  pub public-key : length p ≤ 512
 
-pub record SignedReady (s : List ℕ) (l : Lent) (t : Table) (c : Span) (i : ℕ) : Type 0 where
-  pub aaid : length (l .aaid) ≡ 9
-  pub nonce : length (l .nonce) ≤ 32
+pub record SignedReady (s a x h : List ℕ) (t : Table) (c : Span) (i : ℕ) : Type 0 where
+  pub aaid : length a ≡ 9
+  pub nonce : length x ≤ 32
   pub challenge : Challenge s c
-  pub hash : length (l .contentHash) ≡ 32
+  pub hash : length h ≡ 32
   pub there : i < length t
 
 abbrev pub ReadyShape : List ℕ → Lent → Table → Span → Shape → Type 0
 ReadyShape s l t c (Status n) = Unit {0}
 ReadyShape s l t c Info = (length (l .aaid) ≡ 9) × (length (l .metadata) ≡ 15)
 ReadyShape s l t c Names = Unit {0}
-ReadyShape s l t c Registration = KrdReady s l c
-ReadyShape s l t c (Signed i n content) = SignedReady s l t c i
+ReadyShape s l t c Registration = KrdReady s (l .aaid) (l .keyId) (l .publicKey) c
+ReadyShape s l t c (Signed i n content) = SignedReady s (l .aaid) (l .nonce) (l .contentHash) t c i
 
 pub record Ready (s : List ℕ) (l : Lent) (t : Table) (c : Span) (r : Reply) : Type 0 where
   pub named-there : ChosenOf t (r .named)

@@ -1,20 +1,20 @@
 -- What the C entry returns, from what the call said and left.
 -- Assumes nothing.
 use mathlib.Core.Path.{_≡_, refl, sym, ap, _∙_}
-use mathlib.Core.Bool.{Bool, true, false}
+use mathlib.Core.Bool.{Bool}
 use mathlib.Core.List.{List, []}
 use mathlib.Core.Option.{Option, some, Option·getD}
 use Prim.Native.Nat.{ℕ}
 use lib.ListN.{length}
 use Rattle.model.specs.Records.{encode}
 use Rattle.model.specs.Commands as model
-use Rattle.model.specs.Commands.{Result, refused, gave, Effect, Outputs, outputs, bytesOf}
+use Rattle.model.specs.Commands.{Result, refused, gave, Effect, outputs, bytesOf}
 use Rattle.model.proofs.Basics.{impossible}
 use Rattle.authenticator.specs.Outcomes.{number, Told, told, isDraft, said, outputsOf, Ended, ended, ends}
 use Rattle.authenticator.specs.declared.outcome.Refusal.{Refusal}
 use Rattle.authenticator.specs.declared.outcome.Outcome.{Outcome}
 use Rattle.authenticator.specs.declared.outcome.Outcome.the-variants.{Refused, Gave}
-use Rattle.token.specs.Returned.{Returned, gets, answerNumber, draftNumber, returned}
+use Rattle.token.specs.Returned.{gets, answerNumber, draftNumber, returned}
 
 -- the number of an answer is that of what is said of it
 number-is : (a : model.Answer) → draftNumber (isDraft a) ≡ answerNumber a

@@ -4,11 +4,8 @@ use borrow.Author.Needs.{needs}
 use Rattle.params.proofs.kinds.slot_field.Statement.{statement}
 use Rattle.params.proofs.kinds.slot_field.Tie as tie
 
-returns-10 : tie.Need-returns-10
-returns-10 c = slot-last _ (c .before .pre) (c .match .rest)
-
 pub slot-field-spec : {M : Type 1} → statement M
 slot-field-spec =
     tie.close
     (tie.spec (λ c. search needs) (λ c. search needs) (λ c. search needs) (λ c. search needs) (λ c. search needs) (λ c. search needs)
-    (λ c. search needs) (λ c. search needs) (λ c. search needs) returns-10)
+    (λ c. search needs) (λ c. search needs) (λ c. search needs) (λ c. slot-last _ (c .before .pre) (c .match .rest)))
