@@ -27,12 +27,12 @@ pub record Told : Type 0 where
 abbrev pub told : Bool → ℕ → ℕ → Told
 told d n m = record { draft = d; response = n; table = m }
 
--- one refusal, or that
+-- what the code's outcome says: one refusal, or that
 abbrev pub said : Outcome → Result Told
 said (Refused r) = refused (number r)
 said (Gave d n m) = gave (told d n m)
 
--- the same of the model's result
+-- whether an answer of the model is a draft, and what is said of a call with this result of the model
 abbrev pub isDraft : Answer → Bool
 isDraft (response s) = false
 isDraft (draft s) = true
@@ -53,6 +53,6 @@ pub record Ended : Type 0 where
 abbrev pub ended : Outcome → List ℕ → List ℕ → Ended
 ended r o t = record { result = said r; after = outputsOf o t }
 
--- both by the model's result and the outputs lent
+-- what a call with this result of the model says and leaves, where these outputs were lent
 unfoldable pub ends : Result Effect → Outputs → Ended
 ends r o = record { result = toldOf r; after = outputs r o }

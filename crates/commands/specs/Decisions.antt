@@ -40,7 +40,7 @@ pub record Decides (k : Kind) (s : List ℕ) (n : Numbers) (m key : List ℕ) (t
   pub sound : Sound k s t c (d .reply)
   pub can : Can s key m t (d .change)
 
--- the same of a command that looks at its parameters alone
+-- a command that looks at its parameters alone decides so on every table, whatever is lent
 pub record DecidesAlways (k : Kind) (p : Params) (d : Decision) : Type 0 where
   pub always : (s : List ℕ) (n : Numbers) (m key : List ℕ) (t : records.Table) → ParamsRead k s p
       → Decides k s n m key t (p .«challenge_hash») d

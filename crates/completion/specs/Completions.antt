@@ -17,12 +17,12 @@ abbrev pub said : Completed → Result ℕ
 said (Refused n) = refused n
 said (Wrote n) = gave n
 
--- and the response output after it
+-- what a completion says, and the response output after it
 pub record Ended : Type 0 where
   pub result : Result ℕ
   pub response : List ℕ
 
--- both, from what the function gives and leaves
+-- what the function gave, and the response output that it left
 abbrev pub ended : Completed → List ℕ → Ended
 ended r out = record { result = said r; response = out }
 

@@ -23,7 +23,7 @@ abbrev pub said : Answered → Result Size
 said (Refused r) = refused (number r)
 said (Gave d n) = gave (record { draft = d; length = n })
 
--- the same of the model's result
+-- what is said of a call with this result of the model
 abbrev pub sizeOf : Result Effect → Result Size
 sizeOf (refused n) = refused n
 sizeOf (gave e) = gave (record { draft = isDraft (e .answer); length = length (bytesOf (e .answer)) })

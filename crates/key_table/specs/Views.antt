@@ -38,7 +38,7 @@ viewTable t = map viewRecord (firsts noValue (t .len) (t .records))
 abbrev pub TidyRecord : Record → Type 0
 TidyRecord r = r .name ≡ firsts 0 128 (firsts 0 (r .«name_len») (r .name))
 
--- and in a table
+-- spare bytes are zero in a table, in each record and past the last
 pub record Tidy (t : Table) : Type 0 where
   pub names : (i : ℕ) → i < t .len → TidyRecord (getD (t .records) i noValue)
   pub rest : drop (t .len) (t .records) ≡ drop (t .len) (firsts spareRecord 32 [])

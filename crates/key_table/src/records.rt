@@ -1,3 +1,4 @@
+use stored_table::records::MAX_RECORDS;
 use tlv::writer::put_bytes;
 ghost use mathlib.Core.Path.{_≡_};
 ghost use Prim.Native.Nat.{_≤_};
@@ -16,7 +17,7 @@ pub struct Record {
 
 // A table: its records, oldest first, are the first len of these.
 pub struct Table {
-    pub records: [Record; 32],
+    pub records: [Record; MAX_RECORDS],
     pub len: usize,
 }
 
@@ -76,7 +77,7 @@ pub fn no_table() -> Table
 {
     let empty = spare();
     Table {
-        records: [empty; 32],
+        records: [empty; MAX_RECORDS],
         len: 0,
     }
 }

@@ -21,7 +21,7 @@ tagIn end = 0
 tagIn (field f l) = 0
 tagIn (group t inner l) = t
 
--- and its inside
+-- the inside of a layout that is one group
 abbrev insideIn : Layout → Layout
 insideIn end = end
 insideIn (field f l) = end

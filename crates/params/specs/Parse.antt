@@ -16,12 +16,12 @@ pub record Placed (s : List ℕ) (f : model.Field) (p : Span) : Type 0 where
   pub inside : Inside s p
   pub value : part s p ≡ fieldIn f s
 
--- the same of the key handles
+-- parts of the command are the values of its key handles, in their order
 pub record HandlesPlaced (s : List ℕ) (ps : Spans) : Type 0 where
   pub inside : AllInside s ps
   pub values : partsIn s ps ≡ fieldsIn model.keyHandle s
 
--- the same of every field
+-- every parameter stands at its part of the command
 pub record ParamsPlaced (s : List ℕ) (r : Params) : Type 0 where
   pub app-id : Placed s model.appId (r .«app_id»)
   pub challenge-hash : Placed s model.challengeHash (r .«challenge_hash»)

@@ -65,7 +65,7 @@ pub record SlotIs (s : List ℕ) (vs : List (List ℕ)) (times : ℕ) (first : S
   pub inside : Inside s first
   pub value : part s first ≡ getD vs 0 []
 
--- the same of the field of every slot
+-- the values of every slot's field were counted, and the first of them found
 pub record SlotsAre (s : List ℕ) (from : ℕ) (r : Slots) : Type 0 where
   pub each : (slot : ℕ) → slot < slots → SlotIs s (valuesOf (slotField slot) (runFrom s from)) (getD (r .times) slot 0) (getD (r .first) slot noSpan)
 
@@ -73,7 +73,7 @@ pub record SlotsAre (s : List ℕ) (from : ℕ) (r : Slots) : Type 0 where
 abbrev pub timesAllowed : Times → ℕ → Bool
 timesAllowed t n = cond (eqb (t .most) 0) true (leb (t .least) n && leb n (t .most))
 
--- these numbers of times are allowed, field by field
+-- a command allows that its fields are given so many times, field by field
 abbrev pub allowedFrom : model.Kind → List model.Field → List ℕ → Bool
 allowedFrom k [] ns = true
 allowedFrom k (f ∷ fs) [] = timesAllowed (timesFor k f) 0 && allowedFrom k fs []

@@ -81,7 +81,8 @@ pub record Sound (k : Kind) (s : List ℕ) (t : Table) (c : Span) (r : Reply) : 
   pub named-there : ChosenOf t (r .named)
   pub own-shape : SoundShape k s t c (r .shape)
 
--- and that what is written of what is lent has the right length
+-- a writer's output is what it should be only if what it writes of what is lent has the right length: for key registration data, for signed data, and
+-- by the shape
 pub record KrdReady (s a k p : List ℕ) (c : Span) : Type 0 where
   pub aaid : length a ≡ 9
   pub challenge : Challenge s c

@@ -1,4 +1,5 @@
 use stored_table::lookups::Chosen;
+use stored_table::records::MAX_OWN;
 ghost use mathlib.Core.Path.{_≡_};
 ghost use Rattle.replies.specs.Replies.{isDraft, plain};
 
@@ -29,7 +30,7 @@ pub fn plain(shape: Shape) -> Reply
     Reply {
         shape,
         named: Chosen {
-            records: [0usize; 8],
+            records: [0usize; MAX_OWN],
             len: 0,
         },
     }

@@ -14,7 +14,7 @@ use Rattle.tlv.specs.declared.heads.Span.{Span}
 abbrev pub partAt : ℕ → ℕ → ℕ → Part
 partAt t at n = record { tag = t; place = at; size = n }
 
--- those that are met after k bytes of a stretch that starts at a place
+-- the TLVs that are met after k bytes of a stretch that starts at a place
 unfoldable pub metPast : ℕ → ℕ → List ℕ → List Part
 metPast zero at [] = []
 metPast zero at (a ∷ []) = []
@@ -31,7 +31,7 @@ metPast (suc k) at (b ∷ s) = metPast k (at + 1) s
 unfoldable pub met : List ℕ → ℕ → List Part
 met s at = metPast 0 at (drop at s)
 
--- those that hold no other
+-- the TLVs met that hold no other
 abbrev pub fieldsMet : List ℕ → List Part
 fieldsMet s = select (λ p. not (holds (p .tag))) (met s 0)
 

@@ -34,7 +34,7 @@ changeOf s k t (Add p) = commands.add k (part s p)
 changeOf s k t (SetCount i n) = commands.setCount (getD t i noRecord .keyId) n
 changeOf s k t (Remove p) = removal (part s p)
 
--- that it can be made, where m is the mixed token lent
+-- a change can be made, where m is the mixed token lent: a record added, a count set, and by the change
 pub record CanAdd (s k m : List ℕ) (t : model.Table) (p : Span) : Type 0 where
   pub inside : Inside s p
   pub short : length (part s p) ≤ 128

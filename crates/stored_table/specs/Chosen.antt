@@ -18,16 +18,16 @@ unfoldable pub positions : {A : Type 0} → (A → Bool) → ℕ → List A → 
 positions p i [] = []
 positions p i (x ∷ xs) = consIf (p x) i (positions p (suc i) xs)
 
--- these are the numbers that a function gave
+-- a function chose the records with these numbers
 pub record ChosenAre (is : List ℕ) (r : Chosen) : Type 0 where
   pub few : r .len ≤ 8
   pub are : take (r .len) (r .records) ≡ is
 
--- these are numbers of records
+-- what is chosen are numbers of records of this table
 pub record ChosenOf (t : model.Table) (c : Chosen) : Type 0 where
   pub few : c .len ≤ 8
   pub each : (i : ℕ) → i < c .len → getD (c .records) i 0 < length t
 
--- those records
+-- the records chosen
 abbrev pub recordsAt : model.Table → Chosen → model.Table
 recordsAt t c = map (λ i. getD t i noRecord) (take (c .len) (c .records))

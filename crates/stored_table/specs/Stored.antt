@@ -66,15 +66,15 @@ unfoldable pub recordAt : List ℕ → ℕ → model.Record
 recordAt b p =
     recordOf (row (p + keyIdAt) b) (row (p + mixedAt) b) (take (nameSize b p) (drop (p + nameAt) b)) (numAt 4 b (countAt b p))
 
--- it lies in the stretch
+-- the record at a place lies in the stretch
 abbrev pub Stands : List ℕ → ℕ → Type 0
 Stands b p = p + besideName + nameSize b p ≤ length b
 
--- it stands there as it is stored
+-- the bytes of the record at a place are its stored form
 abbrev pub StoredAt : List ℕ → ℕ → Type 0
 StoredAt b p = take (recordSize b p) (drop p b) ≡ encode (recordAt b p ∷ [])
 
--- each of these lies in the stretch
+-- the record at each of these places lies in the stretch
 pub record AllStand (table places : List ℕ) : Type 0 where
   pub each : (i : ℕ) → i < length places → Stands table (getD places i 0)
 

@@ -27,7 +27,7 @@ fn obeys(table: &[u8], places: &[usize]) -> bool
 // Where the records of a stored table start, if there is one. What stands past their number is open.
 pub struct Index {
     pub ok: bool,
-    pub places: [usize; 32],
+    pub places: [usize; MAX_RECORDS],
     pub len: usize,
 }
 
@@ -37,13 +37,13 @@ fn no_index() -> Index
 {
     Index {
         ok: false,
-        places: [0usize; 32],
+        places: [0usize; MAX_RECORDS],
         len: 0,
     }
 }
 
 // The index of a stretch that is a run of at most 32 stored records, if the table obeys the rules.
-fn if_ok(table: &[u8], places: [usize; 32], len: usize) -> Index
+fn if_ok(table: &[u8], places: [usize; MAX_RECORDS], len: usize) -> Index
     requires { ⌜ Loaded (now table) places len ⌝ }
     ensures { λ r. ⌜ IndexIs (now (table .entry)) r ⌝ }
 {
@@ -55,7 +55,7 @@ fn if_ok(table: &[u8], places: [usize; 32], len: usize) -> Index
 pub fn index_of(table: &[u8]) -> Index
     ensures { λ r. ⌜ IndexIs (now (table .entry)) r ⌝ }
 {
-    let mut places = [0usize; 32];
+    let mut places = [0usize; MAX_RECORDS];
     let mut len = 0;
     let mut at = 0;
     while at < table.len() {

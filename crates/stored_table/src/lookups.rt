@@ -1,4 +1,5 @@
 use crate::records::KEY_ID;
+use crate::records::MAX_OWN;
 use crate::records::MIXED;
 use tlv::heads::Span;
 use tlv::heads::Spans;
@@ -36,7 +37,7 @@ pub fn own_count(table: &[u8], places: &[usize], mixed: &[u8]) -> usize
 // The records chosen, by their numbers in the table, the oldest of all being 0: at most eight, because a mixed token has no more. What stands past how
 // many they are is open.
 pub struct Chosen {
-    pub records: [usize; 8],
+    pub records: [usize; MAX_OWN],
     pub len: usize,
 }
 
@@ -67,7 +68,7 @@ pub fn choose(table: &[u8], places: &[usize], mixed: &[u8], s: &[u8], handles: S
     requires { ⌜ AllInside (now s) handles ⌝ }
     ensures { λ r. ⌜ ChosenAre (positions (isChosen (now (mixed .entry)) (partsIn (now (s .entry)) handles)) 0 (tableIn (now (table .entry)))) r ⌝ }
 {
-    let mut records = [0usize; 8];
+    let mut records = [0usize; MAX_OWN];
     let mut len = 0;
     let mut i = 0;
     while i < places.len() {

@@ -13,11 +13,11 @@ pub record ReturnedCompletion : Type 0 where
   pub responseLength : ℕ
   pub response : List ℕ
 
--- these three
+-- the refusal number, or 0, the length and the output of a completion, as one
 abbrev pub wrote : ℕ → ℕ → List ℕ → ReturnedCompletion
 wrote c n s = record { code = c; responseLength = n; response = s }
 
--- from a completion with this result that was lent these
+-- what the firmware gets from a completion with this result that was lent these
 unfoldable pub completedAs : Result (List ℕ) → ReturnedCompletion → ReturnedCompletion
 completedAs (refused n) b = wrote n (b .responseLength) (b .response)
 completedAs (gave s) b = wrote 0 (length s) (outputOf (gave s) (b .response))
@@ -28,11 +28,11 @@ pub record ReturnedPart : Type 0 where
   pub place : ℕ
   pub size : ℕ
 
--- these three
+-- the refusal number, or 0, the place and the length of a signed structure, as one
 abbrev pub points : ℕ → ℕ → ℕ → ReturnedPart
 points c p n = record { code = c; place = p; size = n }
 
--- from a first call with this result that was lent these
+-- what the firmware gets from a first call with this result that was lent these
 unfoldable pub pointed : Result Reading → ReturnedPart → ReturnedPart
 pointed (refused n) b = points n (b .place) (b .size)
 pointed (gave r) b = points 0 (r .signed .place) (r .signed .size)
@@ -47,11 +47,11 @@ pub record ReturnedFields : Type 0 where
   pub places : List ℕ
   pub lengths : List ℕ
 
--- these seven
+-- the refusal number, or 0, the three numbers and the three columns of a second call, as one
 abbrev pub getsFields : (code tag status count : ℕ) → (tags places lengths : List ℕ) → ReturnedFields
 getsFields c t u n ts ps ls = record { code = c; tag = t; status = u; count = n; tags = ts; places = ps; lengths = ls }
 
--- from a second call with this result that was lent these
+-- what the firmware gets from a second call with this result that was lent these
 unfoldable pub returnedFields : Result Reading → ReturnedFields → ReturnedFields
 returnedFields (refused n) b = getsFields n (b .tag) (b .status) (b .count) (b .tags) (b .places) (b .lengths)
 returnedFields (gave r) b =

@@ -17,7 +17,7 @@ pub record Returned : Type 0 where
   pub response : List ℕ
   pub table : List ℕ
 
--- these six
+-- the refusal number, or 0, the three numbers and the two outputs, as one
 abbrev pub gets : (code answer responseLength tableLength : ℕ) → (response table : List ℕ) → Returned
 gets c a n m s t = record { code = c; answer = a; responseLength = n; tableLength = m; response = s; table = t }
 
@@ -26,7 +26,7 @@ abbrev pub answerNumber : Answer → ℕ
 answerNumber (response s) = 0
 answerNumber (draft s) = 1
 
--- the same of what the code says
+-- 1 for a draft, 0 for a response
 abbrev pub draftNumber : Bool → ℕ
 draftNumber d = cond d 1 0
 

@@ -60,7 +60,7 @@ pub extern "C" fn uaf_signed_part(response: &[u8], place: &mut usize, length: &m
     }
     let p = signed_in(response);
     *place = p.start;
-    *length = p.end - p.start;
+    *length = p.len();
     0
 }
 
