@@ -55,7 +55,7 @@ pub fn reply_len(
     }
 }
 
-// Writes a reply's bytes, to a command of this kind whose challenge hash is that part of it, from the front of an output that is long enough.
+// Writes a reply of len bytes, to a command of this kind whose challenge hash is that part of it, from the front of an output that is long enough.
 pub fn write_reply(
     out: &mut [u8],
     reply: Reply,
