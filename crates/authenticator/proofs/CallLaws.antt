@@ -35,17 +35,16 @@ use Rattle.replies.specs.declared.reply.Reply.{Reply}
 use Rattle.replies.proofs.ReplyLaws.{draft-is, ready, short, size-most}
 use Rattle.commands.specs.Decisions.{Decides}
 use Rattle.commands.specs.declared.decision.Decision.{Decision}
-use Rattle.authenticator.specs.Outcomes.{number, isDraft, outputsOf, Ended, ended, ends}
-use Rattle.authenticator.specs.declared.outcome.Refusal.{Refusal}
+use Rattle.authenticator.specs.Outcomes.{isDraft, outputsOf, Ended, ended, ends}
 use Rattle.authenticator.specs.declared.outcome.Outcome.the-variants.{Refused, Gave}
 
 -- ---- refusals
 
 -- a refusal leaves both outputs as they came
-pub ends-refused : {o : Result Effect} (q : Refusal) (out tab : List ℕ) → o ≡ refused (number q)
-    → ended (Refused q) out tab ≡ ends o (outputsOf out tab)
+pub ends-refused : {o : Result Effect} (n : ℕ) (out tab : List ℕ) → o ≡ refused n
+    → ended (Refused n) out tab ≡ ends o (outputsOf out tab)
 unfolding ends outputs
-ends-refused q out tab e = rw e
+ends-refused n out tab e = rw e
 
 -- a call ends as what it gives does
 pub ends-same : {o q : Result Effect} {x : Ended} (z : Outputs) → o ≡ q → x ≡ ends q z → x ≡ ends o z

@@ -6,17 +6,8 @@ use mathlib.Core.Option.{some}
 use lib.ListN.{length}
 use Rattle.model.specs.Records.{encode}
 use Rattle.model.specs.Commands.{Answer, response, draft, Result, refused, gave, Effect, bytesOf, Outputs, outputs}
-use Rattle.authenticator.specs.declared.outcome.Refusal.{Refusal}
-use Rattle.authenticator.specs.declared.outcome.Refusal.the-variants.{ShortOutput, BrokenTable, NoCommand, WrongLent}
 use Rattle.authenticator.specs.declared.outcome.Outcome.{Outcome}
 use Rattle.authenticator.specs.declared.outcome.Outcome.the-variants.{Refused, Gave}
-
--- document 01's numbers
-abbrev pub number : Refusal → ℕ
-number ShortOutput = 1
-number BrokenTable = 2
-number NoCommand = 3
-number WrongLent = 4
 
 -- what is said of a call that is not refused: whether it wrote a draft or a response, its length, and that of the stored table left
 pub record Told : Type 0 where
@@ -29,7 +20,7 @@ told d n m = record { draft = d; response = n; table = m }
 
 -- what the code's outcome says: one refusal, or that
 abbrev pub said : Outcome → Result Told
-said (Refused r) = refused (number r)
+said (Refused n) = refused n
 said (Gave d n m) = gave (told d n m)
 
 -- whether an answer of the model is a draft, and what is said of a call with this result of the model

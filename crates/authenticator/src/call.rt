@@ -1,7 +1,10 @@
 use crate::outcome::Outcome;
-use crate::outcome::Refusal;
 use commands::decide::decide;
 use fields::LEAST_OUTPUT;
+use fields::refusals::BROKEN_TABLE;
+use fields::refusals::NO_COMMAND;
+use fields::refusals::SHORT_OUTPUT;
+use fields::refusals::WRONG_LENT;
 use params::kinds::Kind;
 use params::kinds::Named;
 use params::kinds::kind_of;
@@ -128,15 +131,15 @@ pub fn call(
         (outputsOf (now (response .entry)) (now («table_out» .entry))) ⌝ }
 {
     if is_short(response.len(), table_out.len()) {
-        return Outcome::Refused(Refusal::ShortOutput);
+        return Outcome::Refused(SHORT_OUTPUT);
     }
     let index = index_of(table);
     if !index.ok {
-        return Outcome::Refused(Refusal::BrokenTable);
+        return Outcome::Refused(BROKEN_TABLE);
     }
     let named = kind_of(command);
     let Named::Command(kind) = named else {
-        return Outcome::Refused(Refusal::NoCommand);
+        return Outcome::Refused(NO_COMMAND);
     };
     if !lent_ok(
         kind,
@@ -149,7 +152,7 @@ pub fn call(
         nonce,
         hash,
     ) {
-        return Outcome::Refused(Refusal::WrongLent);
+        return Outcome::Refused(WRONG_LENT);
     }
     perform(
         kind,

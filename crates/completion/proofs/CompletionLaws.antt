@@ -22,8 +22,9 @@ use Rattle.tlv.specs.Writing.{Wrote}
 use Rattle.tlv.proofs.HeadLaws.{empty-size}
 use Rattle.tlv.proofs.WriteLaws.{front}
 use Rattle.layouts.proofs.SizeLaws.{reads-most}
-use Rattle.completion.specs.Completions.{completion, ended, ends}
-use Rattle.completion.specs.declared.Completed.the-variants.{Refused, Wrote as Written}
+use Rattle.fields.specs.Refusals.{ended, ends}
+use Rattle.fields.specs.declared.refusals.Written.the-variants.{Refused, Wrote as Written}
+use Rattle.completion.specs.Completions.{completion}
 
 -- ---- the draft
 

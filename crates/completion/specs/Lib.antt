@@ -1,2 +1,2 @@
--- A completion from the parameters that carry it, and what the function gives for it.
+-- A completion from the parameters that carry it, and what its response begins with.
 pub mod Completions

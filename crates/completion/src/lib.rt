@@ -7,6 +7,10 @@ use crate::writers::put_surrogate;
 use fields::Field;
 use fields::LEAST_OUTPUT;
 use fields::fits;
+use fields::refusals::NOT_WRITTEN;
+use fields::refusals::SHORT_OUTPUT;
+use fields::refusals::WRONG_LENT;
+use fields::refusals::Written;
 use fields::tags;
 use layouts::Group;
 use layouts::after_group;
@@ -14,7 +18,8 @@ ghost use mathlib.Core.Path.{_≡_};
 ghost use mathlib.Core.List.{[]};
 ghost use lib.ListN.{length};
 ghost use Rattle.model.specs.Complete.{isDraft, completionOk, complete};
-ghost use Rattle.completion.specs.Completions.{completion, ended, ends};
+ghost use Rattle.fields.specs.Refusals.{ended, ends};
+ghost use Rattle.completion.specs.Completions.{completion};
 
 // The kinds of completion.
 const REGISTRATION: u32 = 0;
@@ -56,19 +61,6 @@ fn completion_ok(kind: u32, attestation: usize, signature: &[u8], certificate: &
     false
 }
 
-// Document 01's numbers of the refusals, in the order in which they are checked.
-const SHORT_OUTPUT: u32 = 1;
-
-const NO_DRAFT: u32 = 5;
-
-const WRONG_RESULT: u32 = 4;
-
-// One refusal, by its number, or the length of the response that was written.
-pub enum Completed {
-    Refused(u32),
-    Wrote(usize),
-}
-
 // Completes a draft.
 pub fn complete(
     kind: u32,
@@ -77,7 +69,7 @@ pub fn complete(
     signature: &[u8],
     certificate: &[u8],
     out: &mut [u8],
-) -> Completed
+) -> Written
     ensures { λ r. ⌜
         ended r (now (out .exit))
         ≡ ends
@@ -86,19 +78,19 @@ pub fn complete(
         (now (out .entry)) ⌝ }
 {
     if out.len() < LEAST_OUTPUT {
-        return Completed::Refused(SHORT_OUTPUT);
+        return Written::Refused(SHORT_OUTPUT);
     }
     if !is_draft(kind, draft) {
-        return Completed::Refused(NO_DRAFT);
+        return Written::Refused(NOT_WRITTEN);
     }
     if !completion_ok(kind, attestation, signature, certificate) {
-        return Completed::Refused(WRONG_RESULT);
+        return Written::Refused(WRONG_LENT);
     }
     if kind == SIGN {
-        return Completed::Wrote(put_sign(out, draft, signature));
+        return Written::Wrote(put_sign(out, draft, signature));
     }
     if attestation == tags::BASIC_FULL {
-        return Completed::Wrote(put_full(out, draft, signature, certificate));
+        return Written::Wrote(put_full(out, draft, signature, certificate));
     }
-    Completed::Wrote(put_surrogate(out, draft, signature))
+    Written::Wrote(put_surrogate(out, draft, signature))
 }

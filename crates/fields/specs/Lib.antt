@@ -1,2 +1,3 @@
--- The code's fields in the words of `model`.
+-- The code's fields in the words of `model`, and what a function with one output says.
 pub mod Fields
+pub mod Refusals

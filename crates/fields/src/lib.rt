@@ -1,5 +1,6 @@
 // The fields of commands, records, lent results, responses and drafts: each one's tag, lengths and what else is asked of its value, in one
-// table.
+// table. Beside it the refusals, in one list.
+pub mod refusals;
 pub mod tags;
 
 use tlv::bytes::same;

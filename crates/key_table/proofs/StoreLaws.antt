@@ -21,14 +21,14 @@ use Rattle.tlv.specs.Writing.{Wrote}
 use Rattle.tlv.specs.Firsts.{firsts}
 use Rattle.tlv.proofs.FirstLaws.{firsts-take, length-firsts}
 use Rattle.tlv.proofs.WriteLaws.{then, same, front, from-front, wrote-none}
+use Rattle.fields.specs.Refusals.{ended, ends}
+use Rattle.fields.specs.declared.refusals.Written.the-variants.{Refused, Wrote as Written}
 use Rattle.stored_table.specs.Stored.{recordOf, besideName}
 use Rattle.stored_table.specs.Index.{IndexIs}
 use Rattle.stored_table.specs.declared.index.Index.{Index}
 use Rattle.stored_table.proofs.IndexLaws.{encode-append}
-use Rattle.authenticator.specs.declared.outcome.Refusal.the-variants.{ShortOutput, BrokenTable}
 use Rattle.key_table.specs.Views.{viewRecord, viewTable, noValue}
-use Rattle.key_table.specs.Forms.{FormIs, storing, stores, stored}
-use Rattle.key_table.specs.declared.forms.Stored.the-variants.{Refused, Wrote as Written}
+use Rattle.key_table.specs.Forms.{FormIs, storing}
 use Rattle.key_table.specs.declared.records.Record.{Record}
 use Rattle.key_table.specs.declared.records.Table.{Table}
 use Rattle.key_table.proofs.ViewLaws.{length-view, take-next}
@@ -105,18 +105,18 @@ form-ok f x = sym (read-test _ _) ∙ ap given (sym (x .view) ∙ f .view) ∙ r
 -- ---- the stored form in an output
 
 module _ (t : model.Table) (out : List ℕ) where
-  pub stores-short : length out < maxStored → stored (Refused ShortOutput) out ≡ stores t out
-  unfolding stores storing judge
+  pub stores-short : length out < maxStored → ended (Refused 1) out ≡ ends (storing t (length out)) out
+  unfolding ends storing judge
   stores-short h = rw (lt-ltb _ _ h)
 
   module _ (h : maxStored ≤ length out) where
-    pub stores-broken : tableOk t ≡ false → stored (Refused BrokenTable) out ≡ stores t out
-    unfolding stores storing judge
+    pub stores-broken : tableOk t ≡ false → ended (Refused 2) out ≡ ends (storing t (length out)) out
+    unfolding ends storing judge
     stores-broken e = rw (le-ltb _ _ h, e)
 
     pub stores-form : {out′ : List ℕ} {n r : ℕ} → tableOk t ≡ true → Wrote out 0 (encode t) n out′ r
-        → stored (Written r) out′ ≡ stores t out
-    unfolding stores storing judge
+        → ended (Written r) out′ ≡ ends (storing t (length out)) out
+    unfolding ends storing judge
     stores-form {out′} {n} {r} e w =
         let k : r ≡ length (encode t) = omega (arith, w) in
         let o : out′ ≡ over (encode t) out = front w .1 ∙ rw (w .size) in

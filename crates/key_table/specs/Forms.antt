@@ -10,12 +10,8 @@ use Rattle.model.specs.Lists.{given}
 use Rattle.model.specs.Records as model
 use Rattle.model.specs.Records.{maxStored, tableOk, encode, decode}
 use Rattle.model.specs.Commands.{check, judge, Result, refused, gave, value, tableOf}
-use Rattle.model.specs.Complete.{outputOf}
-use Rattle.authenticator.specs.Outcomes.{number}
 use Rattle.stored_table.specs.Stored.{nameSize, Stands}
 use Rattle.key_table.specs.Views.{viewTable, Tidy}
-use Rattle.key_table.specs.declared.forms.Stored.{Stored}
-use Rattle.key_table.specs.declared.forms.Stored.the-variants.{Refused, Wrote}
 use Rattle.key_table.specs.declared.forms.Loaded.{Loaded}
 
 -- the first n bytes of an output are the form in which a call is handed a table: what the call finds there is what the table by value is
@@ -28,25 +24,6 @@ pub record FormIs (t : model.Table) (out : List ℕ) (n : ℕ) : Type 0 where
 
 unfoldable pub storing : model.Table → ℕ → Result (List ℕ)
 storing t n = judge (check 1 (ltb n maxStored) ∷ check 2 (not (tableOk t)) ∷ []) refused (gave (encode t))
-
--- what it says, a refusal or the length, and the output after it
-pub record Ended : Type 0 where
-  pub result : Result ℕ
-  pub output : List ℕ
-
-abbrev pub said : Stored → Result ℕ
-said (Refused r) = refused (number r)
-said (Wrote n) = gave n
-
-abbrev pub stored : Stored → List ℕ → Ended
-stored r out = record { result = said r; output = out }
-
-abbrev pub lengthOf : Result (List ℕ) → Result ℕ
-lengthOf (refused n) = refused n
-lengthOf (gave s) = gave (length s)
-
-unfoldable pub stores : model.Table → List ℕ → Ended
-stores t out = let r = storing t (length out) in record { result = lengthOf r; output = outputOf r out }
 
 -- ---- reading: 2, or the table of which a stretch is the stored form
 

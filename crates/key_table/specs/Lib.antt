@@ -1,4 +1,3 @@
 -- Tables by value in the words of `model`.
 pub mod Views
 pub mod Forms
-pub mod Runs

@@ -3,8 +3,9 @@ use crate::records::Table;
 use crate::records::no_table;
 use crate::records::record_of;
 use crate::rules::records_ok;
-use authenticator::outcome::Refusal;
-use authenticator::outcome::number_of;
+use fields::refusals::BROKEN_TABLE;
+use fields::refusals::SHORT_OUTPUT;
+use fields::refusals::Written;
 use stored_table::index::index_of;
 use stored_table::left::put_record;
 use stored_table::records::MAX_STORED;
@@ -23,9 +24,10 @@ ghost use lib.ListN.{length, take};
 ghost use Rattle.model.specs.Lists.{all};
 ghost use Rattle.model.specs.Records.{recordOk, maxRecords, encode, maxStored};
 ghost use Rattle.tlv.specs.Writing.{Wrote};
+ghost use Rattle.fields.specs.Refusals.{ended, ends};
 ghost use Rattle.stored_table.specs.Stored.{besideName, recordAt, Indexed, tableIn};
 ghost use Rattle.key_table.specs.Views.{viewRecord, viewTable, TidyRecord, Tidy};
-ghost use Rattle.key_table.specs.Forms.{FormIs, stores, stored, LoadedIs, ValueAt};
+ghost use Rattle.key_table.specs.Forms.{FormIs, storing, LoadedIs, ValueAt};
 
 // The first n bytes of an array that is as long as its type says.
 fn name_in(v: &[u8], n: usize) -> &[u8]
@@ -76,26 +78,20 @@ pub fn put_form(out: &mut [u8], t: Table) -> usize
     put_table(out, t)
 }
 
-// One refusal, or the length of what was written.
-pub enum Stored {
-    Refused(Refusal),
-    Wrote(usize),
-}
-
 // Writes the stored form of a table: refusal 1 for an output that is too short, then 2 for a table that breaks a rule.
-pub fn store(t: Table, out: &mut [u8]) -> Stored
-    ensures { λ r. ⌜ stored r (now (out .exit)) ≡ stores (viewTable t) (now (out .entry)) ⌝ }
+pub fn store(t: Table, out: &mut [u8]) -> Written
+    ensures { λ r. ⌜ ended r (now (out .exit)) ≡ ends (storing (viewTable t) (length (now (out .entry)))) (now (out .entry)) ⌝ }
 {
     if out.len() < MAX_STORED {
-        return Stored::Refused(Refusal::ShortOutput);
+        return Written::Refused(SHORT_OUTPUT);
     }
     let mut form = [0u8; MAX_STORED];
     let n = put_form(&mut form, t);
     let index = index_of(&form[0..n]);
     if !index.ok {
-        return Stored::Refused(Refusal::BrokenTable);
+        return Written::Refused(BROKEN_TABLE);
     }
-    Stored::Wrote(put_bytes(out, 0, &form[0..n]))
+    Written::Wrote(put_bytes(out, 0, &form[0..n]))
 }
 
 // The record at a place of a stored table, by value.
@@ -136,7 +132,7 @@ pub fn load(stored: &[u8]) -> Loaded
     let index = index_of(stored);
     if !index.ok {
         return Loaded {
-            refusal: number_of(Refusal::BrokenTable),
+            refusal: BROKEN_TABLE,
             table: no_table(),
         };
     }

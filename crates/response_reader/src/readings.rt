@@ -1,6 +1,6 @@
-use crate::shapes::NO_RESPONSE;
 use crate::shapes::is_response;
 use crate::signed::holds_others;
+use fields::refusals::NOT_WRITTEN;
 use tlv::heads::Head;
 use tlv::numbers::get16;
 use tlv::walk::tlv_at;
@@ -83,7 +83,7 @@ fn no_reading() -> Reading
     let none = [0usize; MOST_FIELDS];
     let parts = together(none, none, none, 0);
     Reading {
-        refusal: NO_RESPONSE,
+        refusal: NOT_WRITTEN,
         tag: 0,
         status: 0,
         parts,

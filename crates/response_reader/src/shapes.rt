@@ -107,9 +107,6 @@ fn is_signed(s: &[u8]) -> bool
     is_signed_as(s, a, Group::SignedData)
 }
 
-// The number of the refusal of bytes that are no response.
-pub const NO_RESPONSE: u32 = 5;
-
 // Whether some allowed inputs make a command or a completion write these bytes. The outer tag says which shapes they can have.
 pub fn is_response(s: &[u8]) -> bool
     ensures { λ r. ⌜ r ≡ isResponse (now (s .entry)) ⌝ }

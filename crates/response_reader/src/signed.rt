@@ -1,5 +1,5 @@
-use crate::shapes::NO_RESPONSE;
 use crate::shapes::is_response;
+use fields::refusals::NOT_WRITTEN;
 use fields::tags;
 use tlv::heads::COMPOSITE;
 use tlv::heads::Head;
@@ -61,7 +61,7 @@ pub fn signed_part<'a, 'b>(s: &'a [u8], refusal: &'b mut u32) -> &'a [u8]
     ensures { λ r. ⌜ (now r ≡ signedBytes (readResponse (now (s .entry))) (now (s .entry))) × (now (refusal .exit) ≡ refusalOf (readResponse (now (s .entry)))) ⌝ }
 {
     if !is_response(s) {
-        *refusal = NO_RESPONSE;
+        *refusal = NOT_WRITTEN;
         return &s[0..0];
     }
     *refusal = 0;

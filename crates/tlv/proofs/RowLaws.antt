@@ -3,7 +3,7 @@
 use mathlib.Core.Path.{_≡_, refl, sym, ap, _∙_, fun-ext}
 use mathlib.Core.Bool.{Bool, true, false, not, cond, _&&_}
 use mathlib.Core.List.{List, [], _∷_, _++_, map-append}
-use Prim.Native.Nat.{ℕ, zero, suc, _+_, _≤_, _<_}
+use Prim.Native.Nat.{ℕ, zero, suc, _+_, _-_, _≤_, _<_}
 use native.Mathlib.Nat.{zero-add, pos-of-ne-zero}
 use native.Mathlib.Numerals.{add-one}
 use native.Mathlib.Omega.{arith}
@@ -52,6 +52,10 @@ first-differs s v p h k =
 
 -- ---- how often a row stands there
 
+times-none : (v : List ℕ) → times v [] ≡ 0
+unfolding times
+times-none v = refl
+
 length-consIf : (b : Bool) (x : List ℕ) (xs : List (List ℕ)) → length (consIf b x xs) ≡ cond b 1 0 + length xs
 length-consIf true x xs = omega arith
 length-consIf false x xs = omega arith
@@ -79,6 +83,19 @@ few-without most c cs h x =
     k ∙ sym (le-leb (times x cs) most (omega (arith, leb-true, times-cons x c cs))))
     (λ e. rw (times-cons x c cs, e, zero-add))
 
+-- no row stands there more often than there are rows
+times-most : (v : List ℕ) (cs : List (List ℕ)) → times v cs ≤ length cs
+times-most v [] = omega (arith, times-none v)
+times-most v (c ∷ cs) =
+    split (eqBytes c v)
+    (λ e. rw (times-cons v c cs, e) (omega (arith, times-most v cs)))
+    (λ e. rw (times-cons v c cs, e) (omega (arith, times-most v cs)))
+
+few-short : (most : ℕ) (cs : List (List ℕ)) → length cs ≤ most → fewFrom most cs ≡ true
+few-short most [] h = refl
+few-short most (c ∷ cs) h =
+    rw (le-leb (times c (c ∷ cs)) most (omega (arith, times-most c (c ∷ cs)))) (few-short most cs (omega arith))
+
 -- to count each row from its own place on is enough: the first of its like counts them all
 pub few-from : (most : ℕ) (cs : List (List ℕ)) → eachFew most cs ≡ fewFrom most cs
 unfolding eachFew
@@ -89,10 +106,6 @@ few-from most (c ∷ cs) =
     (λ e. rw e)
 
 -- at least once is among them
-times-none : (v : List ℕ) → times v [] ≡ 0
-unfolding times
-times-none v = refl
-
 times-among : (v : List ℕ) (cs : List (List ℕ)) → not (eqb (times v cs) 0) ≡ among v cs
 times-among v [] = rw (times-none v)
 times-among v (c ∷ cs) =
@@ -131,6 +144,10 @@ module _ (off : ℕ) (at s : List ℕ) where
     -- past the last row
     pub rows-end : length at ≤ i → drop i (rows off at s) ≡ []
     rows-end h = drop-of-length-le (rows off at s) {i = i} (omega (arith, length-rows))
+
+    -- of the last `most` rows none is too often there
+    pub few-end : (most : ℕ) → i ≤ length at → length at - i ≤ most → fewFrom most (drop i (rows off at s)) ≡ true
+    few-end most h k = few-short most (drop i (rows off at s)) (simp length-drop (omega (arith, length-rows)))
 
     -- at row i, where b is what a test of this row gave
     module _ (h : i < length at) where

@@ -79,13 +79,14 @@ fn row_at(s: &[u8], p: usize) -> &[u8]
     &s[p..e]
 }
 
-// Whether each row stands there at most `most` times. It is enough to count a row's like behind it: the first of its like then counts them all.
+// Whether each row stands there at most `most` times. It is enough to count a row's like behind it: the first of its like then counts them all. And of
+// the last `most` rows none can stand there more often from its own place on.
 pub fn each_few(s: &[u8], places: &[usize], off: usize, most: usize) -> bool
     requires { ⌜ Within off (now places) (now s) ⌝ }
     ensures { λ r. ⌜ r ≡ eachFew most (rows off (now (places .entry)) (now (s .entry))) ⌝ }
 {
     let mut i = 0;
-    while i < places.len() {
+    while most < places.len() - i {
         let k = times_in(s, places, off, i + 1, row_at(s, places[i] + off));
         if most <= k {
             return false;

@@ -10,8 +10,7 @@ use Rattle.model.specs.Records.{encode}
 use Rattle.model.specs.Commands as model
 use Rattle.model.specs.Commands.{Result, refused, gave, Effect, outputs, bytesOf}
 use Rattle.model.proofs.Basics.{impossible}
-use Rattle.authenticator.specs.Outcomes.{number, Told, told, isDraft, said, outputsOf, Ended, ended, ends}
-use Rattle.authenticator.specs.declared.outcome.Refusal.{Refusal}
+use Rattle.authenticator.specs.Outcomes.{Told, told, isDraft, said, outputsOf, Ended, ended, ends}
 use Rattle.authenticator.specs.declared.outcome.Outcome.{Outcome}
 use Rattle.authenticator.specs.declared.outcome.Outcome.the-variants.{Refused, Gave}
 use Rattle.token.specs.Returned.{gets, answerNumber, draftNumber, returned}
@@ -23,17 +22,17 @@ number-is (model.draft s) = refl
 
 -- r: what the call said, of which o is what it gives by the definition; out and tab: its outputs before it
 module _ {r : Outcome} (out tab : List ℕ) {out′ tab′ : List ℕ} (a l m : ℕ) where
-  pub entry-refuses : (o : Result Effect) (x : Refusal) (n : ℕ) → ended r out′ tab′ ≡ ends o (outputsOf out tab) → r ≡ Refused x → n ≡ number x
+  pub entry-refuses : (o : Result Effect) (n : ℕ) → ended r out′ tab′ ≡ ends o (outputsOf out tab) → r ≡ Refused n
       → gets n a l m out′ tab′ ≡ returned o (gets 0 a l m out tab)
   unfolding ends outputs returned
-  entry-refuses (refused k) x n p e f =
-      let s : refused (number x) ≡ refused k = sym (ap said e) ∙ ap (λ (y : Ended). y .result) p in
-      let i : number x ≡ k = cc in
+  entry-refuses (refused k) n p e =
+      let s : refused n ≡ refused k = sym (ap said e) ∙ ap (λ (y : Ended). y .result) p in
+      let i : n ≡ k = cc in
       let u : out′ ≡ out = ap (λ (y : Ended). y .after .response) p in
       let v : some tab′ ≡ some tab = ap (λ (y : Ended). y .after .table) p in
       let w : tab′ ≡ tab = cc in
-      rw (f ∙ i, u, w)
-  entry-refuses (gave y) x n p e f =
+      rw (i, u, w)
+  entry-refuses (gave y) n p e =
       let s = sym (ap said e) ∙ ap (λ (y : Ended). y .result) p in impossible cc
 
   pub entry-gives : (o : Result Effect) (d : Bool) (n k b : ℕ) → ended r out′ tab′ ≡ ends o (outputsOf out tab) → r ≡ Gave d n k → b ≡ draftNumber d

@@ -12,9 +12,9 @@ use Rattle.model.specs.Reader.{Stretch, isResponse, readResponse}
 use Rattle.model.proofs.Basics.{split, impossible}
 use Rattle.model.proofs.Refusals.{not-read}
 use Rattle.tlv.specs.declared.heads.Span.{Span}
-use Rattle.completion.specs.Completions.{Ended, ended, ends}
-use Rattle.completion.specs.declared.Completed.{Completed}
-use Rattle.completion.specs.declared.Completed.the-variants.{Refused, Wrote}
+use Rattle.fields.specs.Refusals.{Ended, ended, ends}
+use Rattle.fields.specs.declared.refusals.Written.{Written}
+use Rattle.fields.specs.declared.refusals.Written.the-variants.{Refused, Wrote}
 use Rattle.response_reader.specs.Met.{met, fieldsMet, spanOf, signedMet}
 use Rattle.response_reader.specs.Readings.{partsOf, readingOf}
 use Rattle.response_reader.specs.declared.readings.Reading.{Reading}
@@ -29,7 +29,7 @@ module _ (out : List ℕ) {out′ : List ℕ} (n len : ℕ) where
   unfolding ends completedAs
   refused-as (refused m) e =
       let r = ap (λ (x : Ended). x .result) e in
-      let o = ap (λ (x : Ended). x .response) e in
+      let o = ap (λ (x : Ended). x .output) e in
       let k : n ≡ m = cc in
       rw (k, o)
   refused-as (gave s) e =
@@ -43,11 +43,11 @@ module _ (out : List ℕ) {out′ : List ℕ} (n len : ℕ) where
       impossible cc
   wrote-as (gave s) e =
       let r = ap (λ (x : Ended). x .result) e in
-      let o = ap (λ (x : Ended). x .response) e in
+      let o = ap (λ (x : Ended). x .output) e in
       let k : n ≡ length s = cc in
       rw (k, o)
 
-  module _ (q : Result (List ℕ)) {done : Completed} (e : ended done out′ ≡ ends q out) where
+  module _ (q : Result (List ℕ)) {done : Written} (e : ended done out′ ≡ ends q out) where
     pub complete-refused : done ≡ Refused n → wrote n len out′ ≡ completedAs q (wrote 0 len out)
     complete-refused d = refused-as q (rw d at e)
 

@@ -3,7 +3,6 @@ pub mod responses;
 
 use authenticator::call::call;
 use authenticator::outcome::Outcome;
-use authenticator::outcome::number_of;
 use params::lent::Numbers;
 ghost use mathlib.Core.Path.{_≡_};
 ghost use mathlib.Core.Option.{some};
@@ -79,7 +78,7 @@ pub extern "C" fn uaf_command(
         table_out,
     );
     match outcome {
-        Outcome::Refused(r) => number_of(r),
+        Outcome::Refused(n) => n,
         Outcome::Gave {
             draft,
             response_len: n,

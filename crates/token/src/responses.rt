@@ -1,8 +1,8 @@
-use completion::Completed;
 use completion::complete;
+use fields::refusals::NOT_WRITTEN;
+use fields::refusals::Written;
 use response_reader::readings::MOST_FIELDS;
 use response_reader::readings::read_fields;
-use response_reader::shapes::NO_RESPONSE;
 use response_reader::shapes::is_response;
 use response_reader::signed::signed_in;
 ghost use mathlib.Core.Path.{_≡_};
@@ -40,8 +40,8 @@ pub extern "C" fn uaf_complete(
         response,
     );
     match done {
-        Completed::Refused(n) => n,
-        Completed::Wrote(n) => {
+        Written::Refused(n) => n,
+        Written::Wrote(n) => {
             *response_len = n;
             0
         }
@@ -56,7 +56,7 @@ pub extern "C" fn uaf_signed_part(response: &[u8], place: &mut usize, length: &m
         ≡ pointed (readResponse (now (response .entry))) (points 0 (now (place .entry)) (now (length .entry))) ⌝ }
 {
     if !is_response(response) {
-        return NO_RESPONSE;
+        return NOT_WRITTEN;
     }
     let p = signed_in(response);
     *place = p.start;

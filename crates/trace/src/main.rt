@@ -77,10 +77,15 @@ fn obey_all(s: &[u8], mem: &mut [u8]) {
     obey(&s[start..], mem);
 }
 
-// The script is read from standard input, whole.
+// Reads the script from standard input, whole, and obeys it.
+fn obey_input(text: &mut [u8], mem: &mut [u8]) {
+    let n = io::read_full(0, text);
+    obey_all(&text[..n], mem);
+}
+
+// Makes room for the longest script and for the arguments.
 fn main() {
     let mut text = [0u8; 524288];
-    let n = io::read_full(0, &mut text);
     let mut mem = [0u8; SLOTS * SIZE];
-    obey_all(&text[..n], &mut mem);
+    obey_input(&mut text, &mut mem);
 }

@@ -1,7 +1,7 @@
-// Calls from the arguments in the slots, and the line that says what each gave: of `uaf_command` here, on a table by value in `by_value`.
-mod by_value;
+// Calls from the arguments in the slots, and the line that says what each gave: of `uaf_command` here, on a table by value in `values`.
+mod values;
 
-use crate::by_value::run_by_value;
+use crate::values::run_by_value;
 use params::lent::Numbers;
 use script::slots::AAID;
 use script::slots::COMMAND;

@@ -6,8 +6,8 @@ use Rattle.token.proofs.uaf_command.Tie as tie
 
 returns : tie.Need-returns
 returns c =
-    let o = c .before .before in
-    entry-refuses _ _ _ _ _ _ _ _ (o .before .before .before .before .before .before .call .ensures) (o .outcome .given .1) (c .number-of .ensures)
+    let o = c .before in
+    entry-refuses _ _ _ _ _ _ _ (o .before .before .before .before .before .before .call .ensures) (o .outcome .given .1)
 
 returns-2 : tie.Need-returns-2
 returns-2 c =
@@ -17,5 +17,5 @@ returns-2 c =
 pub uaf-command-spec : {M : Type 1} → statement M
 uaf-command-spec =
     tie.close
-    (tie.spec (λ c κs. search needs) (λ c. search needs) (λ c κs. search needs) (λ c. search needs) (λ c κs. search needs) (λ c. search needs)
-    (λ c. search needs) returns (λ c. search needs) (λ c. search needs) returns-2)
+    (tie.spec (λ c κs. search needs) (λ c. search needs) (λ c. search needs) (λ c κs. search needs) (λ c. search needs) (λ c. search needs) returns
+    (λ c. search needs) (λ c. search needs) returns-2)

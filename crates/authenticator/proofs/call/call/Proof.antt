@@ -10,7 +10,6 @@ use Rattle.model.specs.Records.{maxStored}
 use Rattle.model.specs.Commands.{leastOutput, stored, tableOf}
 use Rattle.model.proofs.Refusals.{short-output, no-table, no-command, wrongly-lent, performs}
 use Rattle.stored_table.specs.Stored.{tableIn}
-use Rattle.authenticator.specs.declared.outcome.Refusal.the-variants.{ShortOutput, BrokenTable, NoCommand, WrongLent}
 use Rattle.authenticator.proofs.CallLaws.{ends-refused, ends-same, too-short, long-enough, read-is, not-read, kind-named}
 use Rattle.authenticator.proofs.call.call.Statement.{statement}
 use Rattle.authenticator.proofs.call.call.Tie as tie
@@ -27,19 +26,19 @@ read : (c : tie.Else2) → let s = start (c .before .before .before) .args .tabl
 read c = read-is _ (c .before .before .index-of .ensures) (not-false _ (c .if2 .left))
 
 returns : tie.Need-returns
-returns c = ends-refused ShortOutput _ _ (short-output _ _ (too-short _ _ (c .before .is-short .ensures) (c .if1 .taken)))
+returns c = ends-refused 1 _ _ (short-output _ _ (too-short _ _ (c .before .is-short .ensures) (c .if1 .taken)))
 
 returns-2 : tie.Need-returns-2
 returns-2 c =
     let r = room (c .before .before .before) in
-    ends-refused BrokenTable _ _
+    ends-refused 2 _ _
     (no-table _ _ (r .0) (r .1) (not-read _ (c .before .before .index-of .ensures) (not-true _ (c .if2 .taken))))
 
 returns-3 : tie.Need-returns-3
 returns-3 c =
     let t = c .before .before .before in
     let r = room (t .before .before .before) in
-    ends-refused NoCommand _ _
+    ends-refused 3 _ _
     (no-command _ _ (r .0) (r .1) _ (read t) (kind-named (c .enum-told .given .1) (c .before .before .kind-of .ensures)))
 
 returns-4 : tie.Need-returns-4
@@ -47,7 +46,7 @@ returns-4 c =
     let n = c .before .before .before in
     let t = n .before .before .before in
     let r = room (t .before .before .before) in
-    ends-refused WrongLent _ _
+    ends-refused 4 _ _
     (wrongly-lent _ _ (r .0) (r .1) _ (read t) _ (kind-named (n .named .given .1) (n .before .before .kind-of .ensures))
     (sym (c .before .lent-ok .ensures) ∙ not-true _ (c .if3 .taken)))
 

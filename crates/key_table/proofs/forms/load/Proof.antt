@@ -1,5 +1,5 @@
 -- The records at the places of the index, or none.
-use mathlib.Core.Path.{_≡_}
+use mathlib.Core.Path.{_≡_, refl}
 use native.Mathlib.Nat.{sub-zero}
 use native.Mathlib.Omega.{arith}
 use lib.ListN.{length, length-map}
@@ -11,8 +11,8 @@ use Rattle.key_table.proofs.forms.load.Tie as tie
 
 returns : tie.Need-returns
 returns c =
-    let f = c .before .before in
-    loaded-none (f .before .before .index-of .ensures) (not-true _ (f .if1 .taken)) (c .before .number-of .ensures) (c .no-table .ensures)
+    let f = c .before in
+    loaded-none (f .before .before .index-of .ensures) (not-true _ (f .if1 .taken)) refl (c .no-table .ensures)
 
 part-values-at-end : tie.Need-part-values-at-end
 part-values-at-end c =
@@ -34,5 +34,5 @@ returns-2 c =
 pub load-spec : {M : Type 1} → statement M
 load-spec =
     tie.close
-    (tie.spec (λ c κs. search needs) (λ c κs. search needs) (λ c κs. search needs) returns (λ c. search needs) (λ c. search needs)
+    (tie.spec (λ c κs. search needs) (λ c κs. search needs) returns (λ c. search needs) (λ c. search needs)
     part-values-at-end values-at-requires returns-2)

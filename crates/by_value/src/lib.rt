@@ -1,21 +1,21 @@
-use crate::forms::load;
-use crate::forms::put_form;
-use crate::records::Table;
+// A call on a table by value: the table is put into the stored form, the call goes the way of every call, and the table left is taken out again.
 use authenticator::call::call;
 use authenticator::outcome::Outcome;
-use authenticator::outcome::Refusal;
+use key_table::forms::load;
+use key_table::forms::put_form;
+use key_table::records::Table;
 use params::lent::Numbers;
 use stored_table::records::MAX_STORED;
 ghost use mathlib.Core.Option.{none};
 ghost use lib.ListN.{length};
 ghost use Rattle.model.specs.Commands.{value, outcome};
 ghost use Rattle.params.specs.Lent.{lentOf, call};
 ghost use Rattle.key_table.specs.Views.{viewTable};
-ghost use Rattle.key_table.specs.Runs.{Gives};
+ghost use Rattle.by_value.specs.Runs.{Gives};
 
-// One refusal; or what was written: a response or a draft, of this length.
+// One refusal, by its number; or what was written: a response or a draft, of this length.
 pub enum Answered {
-    Refused(Refusal),
+    Refused(u32),
     Gave { draft: bool, len: usize },
 }
 
@@ -49,7 +49,7 @@ pub fn run(
         t (now (response .entry)) (now (response .exit)) r ⌝ }
 {
     let mut form = [0u8; MAX_STORED];
-    let n = put_form(&mut form, t);
+    let size = put_form(&mut form, t);
     let mut left = [0u8; MAX_STORED];
     let outcome = call(
         command,
@@ -61,13 +61,13 @@ pub fn run(
         public_key,
         nonce,
         hash,
-        &form[0..n],
+        &form[0..size],
         response,
         &mut left,
     );
     match outcome {
-        Outcome::Refused(r) => Ran {
-            answered: Answered::Refused(r),
+        Outcome::Refused(n) => Ran {
+            answered: Answered::Refused(n),
             table: t,
         },
         Outcome::Gave {

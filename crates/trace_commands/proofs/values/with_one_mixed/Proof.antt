@@ -1,8 +1,8 @@
 -- The index stays within the 32 records.
 use Prim.Native.Nat.{_-_, _≤_}
 use borrow.Author.Needs.{needs}
-use Rattle.trace_commands.proofs.by_value.with_one_mixed.Statement.{statement}
-use Rattle.trace_commands.proofs.by_value.with_one_mixed.Tie as tie
+use Rattle.trace_commands.proofs.values.with_one_mixed.Statement.{statement}
+use Rattle.trace_commands.proofs.values.with_one_mixed.Tie as tie
 
 abbrev Inv-loop : tie.InvT-loop
 Inv-loop t records₀ mixed i₀ records i = i ≤ 32

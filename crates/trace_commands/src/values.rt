@@ -6,14 +6,13 @@
 // and the table that came back is told by ` table ..`, what was written of its stored form, or by ` store N SUM`, if storing is refused.
 use crate::numbers_in;
 use crate::write_kind;
-use authenticator::outcome::number_of;
-use key_table::forms::Stored;
+use by_value::Answered;
+use by_value::Ran;
+use by_value::run;
+use fields::refusals::Written;
 use key_table::forms::load;
 use key_table::forms::store;
 use key_table::records::Table;
-use key_table::run::Answered;
-use key_table::run::Ran;
-use key_table::run::run;
 use script::slots;
 use script::slots::AAID;
 use script::slots::COMMAND;
@@ -116,7 +115,7 @@ fn tell_refusal(what: &[u8], code: u32, out: &[u8]) {
 // Says what the call gave.
 fn tell_answered(answered: Answered, response: &[u8]) {
     match answered {
-        Answered::Refused(r) => tell_refusal(b"refusal", number_of(r), response),
+        Answered::Refused(n) => tell_refusal(b"refusal", n, response),
         Answered::Gave { draft, len } => {
             write_kind(draft as u32);
             write_written(response, len, true);
@@ -125,10 +124,10 @@ fn tell_answered(answered: Answered, response: &[u8]) {
 }
 
 // Says what storing the table gave.
-fn tell_stored(stored: Stored, table_out: &[u8], dump: bool) {
+fn tell_stored(stored: Written, table_out: &[u8], dump: bool) {
     match stored {
-        Stored::Refused(r) => tell_refusal(b" store", number_of(r), table_out),
-        Stored::Wrote(n) => {
+        Written::Refused(n) => tell_refusal(b" store", n, table_out),
+        Written::Wrote(n) => {
             io::write_all(1, b" table");
             write_written(table_out, n, dump);
         }
@@ -136,11 +135,11 @@ fn tell_stored(stored: Stored, table_out: &[u8], dump: bool) {
 }
 
 // Keeps the stored form for the next call, if there is one and the call was not refused.
-fn keep(answered: Answered, stored: Stored, table_out: &[u8], mem: &mut [u8]) {
+fn keep(answered: Answered, stored: Written, table_out: &[u8], mem: &mut [u8]) {
     if let Answered::Refused(_) = answered {
         return;
     }
-    let Stored::Wrote(n) = stored else {
+    let Written::Wrote(n) = stored else {
         return;
     };
     slots::store(table_out, n, TABLE, mem);

@@ -2,9 +2,9 @@
 use native.Mathlib.Nat.{sub-zero}
 use native.Mathlib.Omega.{arith}
 use borrow.Author.Needs.{needs}
-use Rattle.key_table.proofs.RunLaws.{called, gives-refused, left-fits, gives-left}
-use Rattle.key_table.proofs.run.run.Statement.{statement}
-use Rattle.key_table.proofs.run.run.Tie as tie
+use Rattle.by_value.proofs.RunLaws.{called, gives-refused, left-fits, gives-left}
+use Rattle.by_value.proofs.run.Statement.{statement}
+use Rattle.by_value.proofs.run.Tie as tie
 
 part-load-end : tie.Need-part-load-end
 part-load-end c =

@@ -7,12 +7,12 @@ use mathlib.Core.Option.{none}
 use lib.ListN.{length}
 use Rattle.model.specs.Commands.{Result, refused, gave, Effect, bytesOf, outputs}
 use Rattle.model.specs.Traces.{leftBy}
-use Rattle.authenticator.specs.Outcomes.{number, isDraft}
+use Rattle.authenticator.specs.Outcomes.{isDraft}
 use Rattle.key_table.specs.Views.{viewTable, Tidy}
 use Rattle.key_table.specs.declared.records.Table.{Table}
-use Rattle.key_table.specs.declared.run.Answered.{Answered}
-use Rattle.key_table.specs.declared.run.Answered.the-variants.{Refused, Gave}
-use Rattle.key_table.specs.declared.run.Ran.{Ran}
+use Rattle.by_value.specs.declared.Answered.{Answered}
+use Rattle.by_value.specs.declared.Answered.the-variants.{Refused, Gave}
+use Rattle.by_value.specs.declared.Ran.{Ran}
 
 -- what is said of a call that is not refused: whether it wrote a draft or a response, and its length
 pub record Size : Type 0 where
@@ -20,7 +20,7 @@ pub record Size : Type 0 where
   pub length : ℕ
 
 abbrev pub said : Answered → Result Size
-said (Refused r) = refused (number r)
+said (Refused n) = refused n
 said (Gave d n) = gave (record { draft = d; length = n })
 
 -- what is said of a call with this result of the model

@@ -15,15 +15,14 @@ use Rattle.model.proofs.Basics.{impossible}
 use Rattle.model.proofs.StoredForm.{decode-encode, length-encode}
 use Rattle.model.proofs.Kept.{kept}
 use Rattle.params.specs.Lent.{call}
-use Rattle.authenticator.specs.Outcomes.{number, isDraft, Told, told, said, toldOf, outputsOf, Ended, ended, ends}
-use Rattle.authenticator.specs.declared.outcome.Refusal.{Refusal}
+use Rattle.authenticator.specs.Outcomes.{isDraft, Told, told, said, toldOf, outputsOf, Ended, ended, ends}
 use Rattle.authenticator.specs.declared.outcome.Outcome.{Outcome}
 use Rattle.authenticator.specs.declared.outcome.Outcome.the-variants.{Refused, Gave}
 use Rattle.key_table.specs.Forms.{FormIs, LoadedIs}
-use Rattle.key_table.specs.Runs.{Gives}
 use Rattle.key_table.specs.declared.records.Table.{Table}
 use Rattle.key_table.specs.declared.forms.Loaded.{Loaded}
-use Rattle.key_table.specs.declared.run.Answered.the-variants as answered
+use Rattle.by_value.specs.Runs.{Gives}
+use Rattle.by_value.specs.declared.Answered.the-variants as answered
 
 -- ---- a result, by what is said of it
 
@@ -73,11 +72,11 @@ module _ {c : Call} {g : Given} {x : Outcome} {out out′ left′ : List ℕ} (p
   response-is = ap (λ (y : Outputs). y .response) (p .after)
 
   -- after a refusal the table is the one that came
-  pub gives-refused : (t : Table) {r : Refusal} → x ≡ Refused r
-      → Gives (outcome c g) t out out′ (record { answered = answered.Refused r; table = t })
+  pub gives-refused : (t : Table) {n : ℕ} → x ≡ Refused n
+      → Gives (outcome c g) t out out′ (record { answered = answered.Refused n; table = t })
   unfolding outputs
-  gives-refused t {r} e =
-      let k : outcome c g ≡ refused (number r) = refused-is (outcome c g) (sym (ap said e) ∙ p .result) in
+  gives-refused t {n} e =
+      let k : outcome c g ≡ refused n = refused-is (outcome c g) (sym (ap said e) ∙ p .result) in
       record { says = rw k; output = response-is ∙ rw k; left = rw k; as-came = λ i h. refl; tidy = λ h. h }
 
   -- else it is the one that is read again from its stored form

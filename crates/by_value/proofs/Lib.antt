@@ -1,0 +1,2 @@
+-- The law of a call by value.
+mod RunLaws

@@ -1,0 +1,2 @@
+-- What a call by value says and leaves.
+pub mod Runs

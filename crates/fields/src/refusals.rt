@@ -1,0 +1,20 @@
+// What an entry that gives no result says: document 01's numbers. A call checks 1 to 4 in this order, a completion 1, 5 and 4, the reader 5 alone.
+pub const SHORT_OUTPUT: u32 = 1;
+
+// The table, or its stored form, breaks a rule.
+pub const BROKEN_TABLE: u32 = 2;
+
+// Fewer than 4 bytes, or none of the five commands.
+pub const NO_COMMAND: u32 = 3;
+
+// A lent result with a wrong length or number.
+pub const WRONG_LENT: u32 = 4;
+
+// A draft or a response that nothing writes.
+pub const NOT_WRITTEN: u32 = 5;
+
+// What a function with one output says: a refusal, by its number, or the length of what it wrote.
+pub enum Written {
+    Refused(u32),
+    Wrote(usize),
+}
