@@ -14,7 +14,7 @@ use tlv::numbers::get16;
 use trace_commands::run;
 use trace_responses::complete;
 use trace_responses::read;
-ghost use Prim.Native.Nat.{_+_, _≤_, _<_};
+ghost use Prim.Native.Nat.{_≤_};
 ghost use lib.ListN.{length};
 
 // Sets an argument.
@@ -54,38 +54,45 @@ fn obey(line: &[u8], mem: &mut [u8]) {
     }
 }
 
-// Obeys the line that ends at a place, if one does; where the next line starts.
-fn obey_at(s: &[u8], start: usize, i: usize, mem: &mut [u8]) -> usize
-    requires { ⌜ (start ≤ i) × (i < length (now s)) ⌝ }
-    ensures { λ r. ⌜ r ≤ i + 1 ⌝ }
+// A script has at most so many bytes, and a line at most a letter, a space and the longest argument.
+const MOST_TEXT: usize = 1048576;
+
+const MOST_LINE: usize = 2 + 2 * MOST;
+
+// Takes one byte of the script: a newline ends the line, which is obeyed; another byte is put behind it, if there is room. The line's length then.
+fn take(byte: u8, line: &mut [u8], len: usize, mem: &mut [u8]) -> usize
+    requires { ⌜ len ≤ length (now line) ⌝ }
+    ensures { λ r. ⌜ r ≤ length (now (line .entry)) ⌝ }
 {
-    if s[i] != b'\n' {
-        return start;
+    if byte == b'\n' {
+        obey(&line[..len], mem);
+        return 0;
     }
-    obey(&s[start..i], mem);
-    i + 1
+    if len == line.len() {
+        return len;
+    }
+    line[len] = byte;
+    len + 1
 }
 
-// Does what each line says, the last also without its newline.
-fn obey_all(s: &[u8], mem: &mut [u8]) {
-    let mut start = 0;
+// Reads the script from standard input and does what each line says, the last also without its newline.
+fn obey_all(line: &mut [u8], mem: &mut [u8]) {
+    let mut byte = [0u8; 1];
+    let mut len = 0;
     let mut i = 0;
-    while i < s.len() {
-        start = obey_at(s, start, i, mem);
+    while i < MOST_TEXT {
+        if io::read_full(0, &mut byte) == 0 {
+            break;
+        }
+        len = take(byte[0], line, len, mem);
         i += 1;
     }
-    obey(&s[start..], mem);
+    obey(&line[..len], mem);
 }
 
-// Reads the script from standard input, whole, and obeys it.
-fn obey_input(text: &mut [u8], mem: &mut [u8]) {
-    let n = io::read_full(0, text);
-    obey_all(&text[..n], mem);
-}
-
-// Makes room for the longest script and for the arguments.
+// Makes room for a line and for the arguments.
 fn main() {
-    let mut text = [0u8; 524288];
+    let mut line = [0u8; MOST_LINE];
     let mut mem = [0u8; SLOTS * SIZE];
-    obey_input(&mut text, &mut mem);
+    obey_all(&mut line, &mut mem);
 }

@@ -1,19 +1,25 @@
--- Every line lies in the script.
+-- The line stays within its room.
 use borrow.Author.Needs.{needs}
 use mathlib.Core.Path.{_≡_}
 use Prim.Native.Nat.{_-_, _≤_}
-use lib.ListN.{length}
+use native.Mathlib.Omega.{arith}
+use lib.ListN.{length, length-take}
 use Rattle.trace.proofs.obey_all.Statement.{statement}
 use Rattle.trace.proofs.obey_all.Tie as tie
 
 abbrev Inv-loop : tie.InvT-loop
-Inv-loop s mem₀ start₀ i₀ mem start i = (start ≤ i) × (i ≤ length s) × (length mem ≡ length mem₀)
+Inv-loop line₀ mem₀ byte₀ len₀ i₀ line mem byte len i =
+    (len ≤ length line) × (length line ≡ length line₀) × (length mem ≡ length mem₀) × (length byte ≡ 1)
 
 abbrev μ-loop : tie.MeasureT-loop
-μ-loop s mem₀ start₀ i₀ mem start i = length s - i
+μ-loop line₀ mem₀ byte₀ len₀ i₀ line mem byte len i = 1048576 - i
+
+slice-aggregate-obey : tie.Need-slice-aggregate-obey Inv-loop μ-loop
+slice-aggregate-obey c = let h = c .before .before .loop .inv .0 in simp length-take (omega arith)
 
 pub obey-all-spec : {M : Type 1} → statement M
 obey-all-spec =
     tie.close
-    (tie.spec Inv-loop μ-loop (λ c. search needs) (λ c κs. search needs) (λ c. search needs) (λ c. search needs) (λ c. search needs)
-    (λ c. search needs) (λ c. search needs) (λ c. search needs) (λ c κs. search needs) (λ c. search needs) (λ c. search needs))
+    (tie.spec Inv-loop μ-loop (λ c. search needs) (λ c. search needs) (λ c κs. search needs) (λ c. search needs) (λ c κs. search needs)
+    (λ c. search needs) (λ c. search needs) (λ c. search needs) (λ c. search needs) slice-aggregate-obey (λ c κs. search needs)
+    (λ c. search needs) (λ c. search needs) (λ c. search needs))
