@@ -23,7 +23,7 @@ use Rattle.replies.specs.Replies.{answerOf, Challenge, Sound}
 use Rattle.replies.specs.declared.reply.Reply.{Reply}
 use Rattle.commands.specs.declared.decision.Decision.{Decision}
 
--- of these two
+-- the decision that is this reply and this change
 abbrev pub decision : Reply → Change → Decision
 decision r c = record { reply = r; change = c }
 

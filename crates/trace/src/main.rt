@@ -65,7 +65,7 @@ fn take(byte: u8, line: &mut [u8], len: usize, mem: &mut [u8]) -> usize
     ensures { λ r. ⌜ r ≤ length (now (line .entry)) ⌝ }
 {
     if byte == b'\n' {
-        obey(&line[..len], mem);
+        obey(&line[0..len], mem);
         return 0;
     }
     if len == line.len() {
@@ -87,7 +87,7 @@ fn obey_all(line: &mut [u8], mem: &mut [u8]) {
         len = take(byte[0], line, len, mem);
         i += 1;
     }
-    obey(&line[..len], mem);
+    obey(&line[0..len], mem);
 }
 
 // Makes room for a line and for the arguments.

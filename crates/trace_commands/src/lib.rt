@@ -153,11 +153,13 @@ fn run_in(
     if table_out.len() < m {
         return;
     }
+    let response = &mut response[0..n];
+    let table_out = &mut table_out[0..m];
     if by_value {
-        run_by_value(name, dump, mem, &mut response[0..n], &mut table_out[0..m]);
+        run_by_value(name, dump, mem, response, table_out);
         return;
     }
-    run_stored(name, dump, mem, &mut response[0..n], &mut table_out[0..m]);
+    run_stored(name, dump, mem, response, table_out);
 }
 
 // Runs a command with outputs of its own, on the stored table or on the table by value, and keeps the table that it left for the next.

@@ -29,6 +29,7 @@ use script::slots::number;
 use script::text::adler;
 use script::text::write_next;
 use script::text::write_written;
+use stored_table::records::MAX_RECORDS;
 
 // The first record's name says that it has n bytes.
 fn with_name_len(t: Table, n: usize) -> Table {
@@ -62,7 +63,7 @@ fn with_one_mixed(t: Table) -> Table {
     let first = records[0];
     let mixed = first.mixed;
     let mut i = 0;
-    while i < 32 {
+    while i < MAX_RECORDS {
         let mut r = records[i];
         r.mixed = mixed;
         records[i] = r;
@@ -105,10 +106,15 @@ fn call(mem: &[u8], t: Table, response: &mut [u8]) -> Ran {
     )
 }
 
-// Says what was refused, by which number, and a sum of the output.
-fn tell_refusal(what: &[u8], code: u32, out: &[u8]) {
+// Says a word and the number of a refusal.
+fn tell(what: &[u8], refusal: u32) {
     io::write_all(1, what);
-    write_next(code as usize);
+    write_next(refusal as usize);
+}
+
+// Says what was refused, by which number, and a sum of the output.
+fn tell_refusal(what: &[u8], refusal: u32, out: &[u8]) {
+    tell(what, refusal);
     write_next(adler(out));
 }
 
@@ -160,19 +166,12 @@ fn run_on(t: Table, dump: bool, mem: &mut [u8], response: &mut [u8], table_out: 
 fn load_and_run(dump: bool, mem: &mut [u8], response: &mut [u8], table_out: &mut [u8]) {
     let loaded = load(arg(mem, TABLE));
     if loaded.refusal != 0 {
-        io::write_all(1, b"load");
-        write_next(loaded.refusal as usize);
+        tell(b"load", loaded.refusal);
         return;
     }
     io::write_all(1, b"by value, ");
-    let t = loaded.table;
-    run_on(
-        spoil(t, number(mem, SPOILT)),
-        dump,
-        mem,
-        response,
-        table_out,
-    );
+    let t = spoil(loaded.table, number(mem, SPOILT));
+    run_on(t, dump, mem, response, table_out);
 }
 
 // Runs a command by value, writes its line and keeps the table left.

@@ -2,8 +2,7 @@
 use borrow.Author.Needs.{needs}
 use mathlib.Core.Path.{_≡_}
 use Prim.Native.Nat.{_-_, _≤_}
-use native.Mathlib.Omega.{arith}
-use lib.ListN.{length, length-take}
+use lib.ListN.{length}
 use Rattle.trace.proofs.obey_all.Statement.{statement}
 use Rattle.trace.proofs.obey_all.Tie as tie
 
@@ -14,12 +13,9 @@ Inv-loop line₀ mem₀ byte₀ len₀ i₀ line mem byte len i =
 abbrev μ-loop : tie.MeasureT-loop
 μ-loop line₀ mem₀ byte₀ len₀ i₀ line mem byte len i = 1048576 - i
 
-slice-aggregate-obey : tie.Need-slice-aggregate-obey Inv-loop μ-loop
-slice-aggregate-obey c = let h = c .before .before .loop .inv .0 in simp length-take (omega arith)
-
 pub obey-all-spec : {M : Type 1} → statement M
 obey-all-spec =
     tie.close
     (tie.spec Inv-loop μ-loop (λ c. search needs) (λ c. search needs) (λ c κs. search needs) (λ c. search needs) (λ c κs. search needs)
-    (λ c. search needs) (λ c. search needs) (λ c. search needs) (λ c. search needs) slice-aggregate-obey (λ c κs. search needs)
-    (λ c. search needs) (λ c. search needs) (λ c. search needs))
+    (λ c. search needs) (λ c. search needs) (λ c. search needs) (λ c. search needs) (λ c. search needs) (λ c. search needs)
+    (λ c κs. search needs) (λ c. search needs) (λ c. search needs) (λ c. search needs))
