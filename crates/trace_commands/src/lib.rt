@@ -114,37 +114,19 @@ fn tell_answer(g: Given, response: &[u8], table_out: &[u8], dump: bool) {
     write_written(table_out, g.table_len, dump);
 }
 
-// Writes a call's line.
-fn tell(name: &[u8], g: Given, response: &[u8], table_out: &[u8], dump: bool) {
-    io::write_all(1, name);
-    io::write_all(1, b": ");
+// Runs a call on the stored table, says what it gave and keeps the table left.
+fn run_stored(dump: bool, mem: &mut [u8], response: &mut [u8], table_out: &mut [u8]) {
+    let g = call(mem, response, table_out);
     if g.code != 0 {
         tell_refusal(g, response, table_out);
-    } else {
-        tell_answer(g, response, table_out, dump);
-    }
-    io::write_all(1, b"\n");
-}
-
-// Runs a call on the stored table, writes its line and keeps the table left.
-fn run_stored(name: &[u8], dump: bool, mem: &mut [u8], response: &mut [u8], table_out: &mut [u8]) {
-    let g = call(mem, response, table_out);
-    tell(name, g, response, table_out, dump);
-    if g.code != 0 {
         return;
     }
+    tell_answer(g, response, table_out, dump);
     store(table_out, g.table_len, TABLE, mem);
 }
 
 // Runs a call in one of the two forms. The outputs are the first bytes of two stretches.
-fn run_in(
-    name: &[u8],
-    by_value: bool,
-    dump: bool,
-    mem: &mut [u8],
-    response: &mut [u8],
-    table_out: &mut [u8],
-) {
+fn run_in(by_value: bool, dump: bool, mem: &mut [u8], response: &mut [u8], table_out: &mut [u8]) {
     let n = number(mem, RESPONSE_LENGTH);
     let m = number(mem, TABLE_LENGTH);
     if response.len() < n {
@@ -156,15 +138,18 @@ fn run_in(
     let response = &mut response[0..n];
     let table_out = &mut table_out[0..m];
     if by_value {
-        run_by_value(name, dump, mem, response, table_out);
+        run_by_value(dump, mem, response, table_out);
         return;
     }
-    run_stored(name, dump, mem, response, table_out);
+    run_stored(dump, mem, response, table_out);
 }
 
-// Runs a command with outputs of its own, on the stored table or on the table by value, and keeps the table that it left for the next.
+// Runs a command with outputs of its own, on the stored table or on the table by value, writes its line and keeps the table that it left for the next.
 pub fn run(name: &[u8], by_value: bool, dump: bool, mem: &mut [u8]) {
+    io::write_all(1, name);
+    io::write_all(1, b": ");
     let mut response = [FILL; MOST];
     let mut table_out = [FILL; MOST];
-    run_in(name, by_value, dump, mem, &mut response, &mut table_out);
+    run_in(by_value, dump, mem, &mut response, &mut table_out);
+    io::write_all(1, b"\n");
 }

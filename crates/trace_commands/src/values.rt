@@ -163,7 +163,7 @@ fn run_on(t: Table, dump: bool, mem: &mut [u8], response: &mut [u8], table_out: 
 }
 
 // Loads the table in its slot, and calls if there is one.
-fn load_and_run(dump: bool, mem: &mut [u8], response: &mut [u8], table_out: &mut [u8]) {
+pub fn run_by_value(dump: bool, mem: &mut [u8], response: &mut [u8], table_out: &mut [u8]) {
     let loaded = load(arg(mem, TABLE));
     if loaded.refusal != 0 {
         tell(b"load", loaded.refusal);
@@ -172,18 +172,4 @@ fn load_and_run(dump: bool, mem: &mut [u8], response: &mut [u8], table_out: &mut
     io::write_all(1, b"by value, ");
     let t = spoil(loaded.table, number(mem, SPOILT));
     run_on(t, dump, mem, response, table_out);
-}
-
-// Runs a command by value, writes its line and keeps the table left.
-pub fn run_by_value(
-    name: &[u8],
-    dump: bool,
-    mem: &mut [u8],
-    response: &mut [u8],
-    table_out: &mut [u8],
-) {
-    io::write_all(1, name);
-    io::write_all(1, b": ");
-    load_and_run(dump, mem, response, table_out);
-    io::write_all(1, b"\n");
 }
