@@ -6,7 +6,7 @@ use Rattle.key_table.proofs.rules.records_ok.Statement.{statement}
 use Rattle.key_table.proofs.rules.records_ok.Tie as tie
 
 returns : tie.Need-returns
-returns c = rw (length-view _, lt-leb _ _ (c .if1 .taken))
+returns c = rw (length-view _, lt-leb _ 32 (c .if1 .taken))
 
 returns-2 : tie.Need-returns-2
 returns-2 c = rw (length-view _, le-leb _ _ (c .before .if1 .left)) (c .each-ok .ensures)

@@ -1,8 +1,10 @@
 -- The row of the mixed token decides first, then the KeyID, if there is one.
-use mathlib.Core.Path.{sym, _∙_}
+use mathlib.Core.Path.{_≡_, sym, _∙_}
+use mathlib.Core.Bool.{false}
 use borrow.Author.Tests.{not-true, not-false}
 use borrow.Author.Needs.{needs}
 use denote.Ref.{now}
+use Rattle.model.specs.Lists.{eqBytes}
 use Rattle.stored_table.proofs.ChangeLaws.{goes-any, goes-one}
 use Rattle.stored_table.specs.Stored.{recordAt}
 use Rattle.stored_table.proofs.left.is_going.Statement.{statement}
@@ -10,7 +12,11 @@ use Rattle.stored_table.proofs.left.is_going.Tie as tie
 
 returns : tie.Need-returns
 unfolding recordAt
-returns c = rw (sym (c .before .row-is .ensures) ∙ not-true _ (c .if1 .taken))
+returns c =
+    let s = c .before .before .before .before .before .args in
+    let other : eqBytes (recordAt (now (s .table)) (s .place) .mixed) (now (s .mixed)) ≡ false =
+    sym (c .before .row-is .ensures) ∙ not-true _ (c .if1 .taken) in
+    rw other
 
 returns-2 : tie.Need-returns-2
 unfolding recordAt
