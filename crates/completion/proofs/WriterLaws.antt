@@ -5,7 +5,7 @@ use mathlib.Core.List.{List, [], _∷_, _++_, append-assoc}
 use Prim.Native.Nat.{ℕ, _+_}
 use native.Mathlib.Omega.{arith}
 use lib.ListN.{length}
-use Rattle.model.specs.Tlv.{le, Tlv, tlv, bytes, tagOf, ok, assertionTag}
+use Rattle.model.specs.Tlv.{le, Tlv, tlv, header, bytes, tagOf, ok, assertionTag}
 use Rattle.model.proofs.Tlvs.{bytes-append, bytes-one, length-bytes}
 use Rattle.model.proofs.CompletionWrites.{wrapped}
 use Rattle.tlv.specs.Writing.{Wrote}
@@ -19,6 +19,15 @@ length-tlv t v = length-bytes (tlv t v) [] ∙ omega arith
 length-inside : (v : List ℕ) → length (bytes (tlv (tagOf ok) (le 2 0) ∷ tlv assertionTag v ∷ [])) ≡ length v + 10
 unfolding le
 length-inside v = length-bytes (tlv (tagOf ok) (le 2 0)) (tlv assertionTag v ∷ []) ∙ omega (arith, length-tlv assertionTag v)
+
+module _ {d d₁ d₂ d₃ : List ℕ} {a₁ a₂ a₃ : ℕ} (response assertion n : ℕ) where
+  -- the start of a response, and two headers
+  pub wrote-opening : Wrote d 0 (header response (n + 14) ++ bytes (tlv 0x2808 (le 2 0) ∷ [])) 10 d₁ a₁
+      → Wrote d₁ a₁ (header assertionTag (n + 4)) 4 d₂ a₂
+      → Wrote d₂ a₂ (header assertion n) 4 d₃ a₃
+      → Wrote d 0 (opening response assertion n) 18 d₃ a₃
+  unfolding opening
+  wrote-opening p q r = same (append-assoc (header response (n + 14)) (bytes (tlv 0x2808 (le 2 0) ∷ [])) _) refl (then p (then q r))
 
 opening-is : (t a : ℕ) (v : List ℕ) → opening t a (length v) ++ v ≡ wrapped t a v
 unfolding opening

@@ -1,8 +1,9 @@
 use fields::tags;
+use replies::status::OK;
+use replies::status::put_start;
 use tlv::writer::put_bytes;
 use tlv::writer::put_header;
 use tlv::writer::put_tlv;
-use tlv::writer::put_tlv16;
 ghost use Prim.Native.Nat.{_+_, _≤_};
 ghost use mathlib.Core.List.{[]};
 ghost use lib.ListN.{length};
@@ -18,10 +19,9 @@ fn put_opening(out: &mut [u8], response: usize, assertion: usize, n: usize) -> u
     requires { ⌜ (18 ≤ length (now out)) × (n ≤ leastOutput) ⌝ }
     ensures { λ r. ⌜ Wrote (now (out .entry)) 0 (opening response assertion n) 18 (now (out .exit)) r ⌝ }
 {
-    let a1 = put_header(out, 0, response, n + 14);
-    let a2 = put_tlv16(out, a1, tags::STATUS_CODE, 0);
-    let a3 = put_header(out, a2, tags::AUTHENTICATOR_ASSERTION, n + 4);
-    put_header(out, a3, assertion, n)
+    let a1 = put_start(out, response, n + 14, OK);
+    let a2 = put_header(out, a1, tags::AUTHENTICATOR_ASSERTION, n + 4);
+    put_header(out, a2, assertion, n)
 }
 
 // The response to a Sign.

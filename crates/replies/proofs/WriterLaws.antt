@@ -1,27 +1,47 @@
 -- What the writers wrote: each response and draft, field by field.
 -- Assumes nothing.
-use mathlib.Core.Path.{_≡_, refl}
+use mathlib.Core.Path.{_≡_, refl, sym, ap, _∙_}
 use mathlib.Core.Bool.{Bool, true, false, cond}
-use mathlib.Core.List.{List, [], _∷_, _++_}
+use mathlib.Core.List.{List, [], _∷_, _++_, append-assoc}
 use Prim.Native.Nat.{ℕ, _+_, _-_}
 use native.Mathlib.Omega.{arith}
-use lib.ListN.{length}
-use Rattle.model.specs.Tlv.{le, tlv, bytes, header, Kind, full, surrogate, textPlain, uafV1Tlv, contentHash, tagOf, infoTag, krdTag, signedTag, responseTag}
+use lib.ListN.{length, length-append}
+use Rattle.model.specs.Tlv.{le, Tlv, tlv, bytes, header, Kind, full, surrogate, textPlain, uafV1Tlv, contentHash, tagOf, infoTag, krdTag, signedTag, responseTag}
 use Rattle.model.specs.Layouts.{fill, write}
 use Rattle.model.specs.Records.{Table}
 use Rattle.model.specs.Commands.{statusOnly, namePairs, nameFields, nameResponse}
+use Rattle.model.proofs.Tlvs.{bytes-append, bytes-one}
 use Rattle.tlv.specs.Writing.{Wrote}
-use Rattle.tlv.proofs.WriteLaws.{same, then-run, then-value}
+use Rattle.tlv.proofs.WriteLaws.{then, same, then-run, then-value}
 use Rattle.params.specs.declared.lent.Numbers.{Numbers}
 use Rattle.replies.specs.Writes.{infoInside, infoWritten, infoStart, krd, signedDraft, pairsOf}
 
+-- ---- the start of a response, and what follows
+
+length-header : (tag n : ℕ) → length (header tag n) ≡ 4
+unfolding le
+length-header tag n = refl
+
+module _ {d d₁ d₂ : List ℕ} {a₁ a₂ m n : ℕ} (tag : ℕ) (t : Tlv) (ts : List Tlv) where
+  -- a header and a first TLV, then others: the header says how long the value is
+  then-rest : n ≡ 6 + m → Wrote d 0 (header tag n ++ bytes (t ∷ [])) 10 d₁ a₁ → Wrote d₁ a₁ (bytes ts) m d₂ a₂
+      → Wrote d 0 (bytes (tlv tag (bytes (t ∷ ts)) ∷ [])) (4 + n) d₂ a₂
+  then-rest e p q =
+      let w : bytes (t ∷ []) ++ bytes ts ≡ bytes (t ∷ ts) = sym (bytes-append (t ∷ []) ts) in
+      let x : (header tag n ++ bytes (t ∷ [])) ++ bytes ts ≡ header tag n ++ bytes (t ∷ ts) =
+      append-assoc (header tag n) (bytes (t ∷ [])) (bytes ts) ∙ ap (λ (s : List ℕ). header tag n ++ s) w in
+      let both = same x refl (then p q) in
+      let l : length (bytes (t ∷ ts)) ≡ n =
+      omega (arith, e, both .size, length-append (header tag n) (bytes (t ∷ ts)), length-header tag n) in
+      same (sym (bytes-one tag n (bytes (t ∷ ts)) l)) (omega arith) both
+
 -- ---- a status alone
 
-module _ {d d₁ d₂ : List ℕ} {a₁ a₂ : ℕ} (k : Kind) (n : ℕ) where
-  pub wrote-status : Wrote d 0 (header (responseTag k) 6) 4 d₁ a₁ → Wrote d₁ a₁ (bytes (tlv 0x2808 (le 2 n) ∷ [])) 6 d₂ a₂
-      → Wrote d 0 (write (statusOnly k) (le 2 n ∷ [])) 10 d₂ a₂
-  unfolding write fill
-  wrote-status p q = then-value (responseTag k) p q
+module _ {d d₁ : List ℕ} {a₁ : ℕ} (k : Kind) (n : ℕ) where
+  pub wrote-status : Wrote d 0 (header (responseTag k) 6 ++ bytes (tlv 0x2808 (le 2 n) ∷ [])) 10 d₁ a₁
+      → Wrote d 0 (write (statusOnly k) (le 2 n ∷ [])) 10 d₁ a₁
+  unfolding write fill bytes le
+  wrote-status p = same (sym (bytes-one (responseTag k) 6 (bytes (tlv 0x2808 (le 2 n) ∷ [])) refl)) refl p
 
 -- ---- GetInfo
 
@@ -43,14 +63,13 @@ module _ {d d₁ d₂ d₃ d₄ d₅ d₆ d₇ d₈ : List ℕ} {at a₁ a₂ a�
       (same refl (omega arith)
       (then-run _ _ i (then-run _ _ v (then-run _ _ w (then-run _ _ x (then-run _ _ y (then-run _ _ f s)))))))
 
-module _ {d d₁ d₂ d₃ d₄ : List ℕ} {a₁ a₂ a₃ a₄ : ℕ} (a m : List ℕ) where
-  pub wrote-info : Wrote d 0 (header 0x3601 90) 4 d₁ a₁
-      → Wrote d₁ a₁ (bytes (tlv 0x2808 (le 2 0) ∷ [])) 6 d₂ a₂
-      → Wrote d₂ a₂ (bytes (tlv 0x280E (1 ∷ []) ∷ [])) 5 d₃ a₃
-      → Wrote d₃ a₃ (bytes (tlv infoTag (infoInside a m) ∷ [])) 79 d₄ a₄
-      → Wrote d 0 (infoWritten a m) 94 d₄ a₄
+module _ {d d₁ d₂ d₃ : List ℕ} {a₁ a₂ a₃ : ℕ} (a m : List ℕ) where
+  pub wrote-info : Wrote d 0 (header 0x3601 90 ++ bytes (tlv 0x2808 (le 2 0) ∷ [])) 10 d₁ a₁
+      → Wrote d₁ a₁ (bytes (tlv 0x280E (1 ∷ []) ∷ [])) 5 d₂ a₂
+      → Wrote d₂ a₂ (bytes (tlv infoTag (infoInside a m) ∷ [])) 79 d₃ a₃
+      → Wrote d 0 (infoWritten a m) 94 d₃ a₃
   unfolding infoInside infoWritten write fill
-  wrote-info p s v i = then-value 0x3601 p (then-run _ _ s (then-run _ _ v i))
+  wrote-info p v i = then-rest 0x3601 _ _ refl p (then-run _ _ v i)
 
 -- ---- KRD
 
@@ -72,6 +91,11 @@ module _ {d d₁ d₂ d₃ d₄ d₅ d₆ d₇ : List ℕ} {a₁ a₂ a₃ a₄ 
       (same refl (omega arith) (then-run _ _ v (then-run _ _ w (then-run _ _ x (then-run _ _ y (then-run _ _ z u)))))))
 
 -- ---- SIGNED_DATA
+
+-- a TLV without a value is its header
+pub wrote-empty : {d d′ : List ℕ} {at r : ℕ} (tag : ℕ) → Wrote d at (header tag 0) 4 d′ r → Wrote d at (bytes (tlv tag [] ∷ [])) 4 d′ r
+unfolding bytes le
+wrote-empty tag p = p
 
 -- the transaction hash has one tag, with content and without
 hash-tag : (content : Bool) → tagOf (contentHash content) ≡ 0x2E10
@@ -101,14 +125,11 @@ module _ {d d₁ d₂ d₃ d₄ d₅ d₆ d₇ d₈ : List ℕ} {a₁ a₂ a₃ 
 
 -- ---- the names of several
 
-module _ {d d₁ d₂ d₃ : List ℕ} {a₁ a₂ a₃ len n : ℕ} (rs : Table) where
+module _ {d d₁ d₂ : List ℕ} {a₁ a₂ len n : ℕ} (rs : Table) where
   -- a header, OK and the pairs
   pub wrote-names : len ≡ 10 + n
-      → Wrote d 0 (header 0x3603 (len - 4)) 4 d₁ a₁
-      → Wrote d₁ a₁ (bytes (tlv 0x2808 (le 2 0) ∷ [])) 6 d₂ a₂
-      → Wrote d₂ a₂ (pairsOf rs) n d₃ a₃
-      → Wrote d 0 (nameResponse rs) len d₃ a₃
+      → Wrote d 0 (header 0x3603 (len - 4) ++ bytes (tlv 0x2808 (le 2 0) ∷ [])) 10 d₁ a₁
+      → Wrote d₁ a₁ (pairsOf rs) n d₂ a₂
+      → Wrote d 0 (nameResponse rs) len d₂ a₂
   unfolding pairsOf nameResponse write fill
-  wrote-names e h p q =
-      same refl (omega arith)
-      (then-value 0x3603 h (same refl (omega arith) (then-run _ (fill (namePairs (length rs)) (nameFields rs)) p q)))
+  wrote-names e p q = same refl (omega arith) (then-rest 0x3603 _ (fill (namePairs (length rs)) (nameFields rs)) (omega arith) p q)

@@ -4,7 +4,6 @@ use tlv::numbers::put8;
 use tlv::numbers::put16;
 use tlv::writer::put_header;
 use tlv::writer::put_tlv;
-use tlv::writer::put_tlv_part;
 use tlv::writer::put_tlv32;
 ghost use mathlib.Core.Path.{_≡_};
 ghost use Prim.Native.Nat.{_+_, _≤_};
@@ -75,7 +74,7 @@ fn put_content_hash(out: &mut [u8], at: usize, hash: &[u8], content: bool) -> us
     if content {
         return put_tlv(out, at, tags::TRANSACTION_CONTENT_HASH, hash);
     }
-    put_tlv_part(out, at, tags::TRANSACTION_CONTENT_HASH, hash, 0)
+    put_header(out, at, tags::TRANSACTION_CONTENT_HASH, 0)
 }
 
 // Writes a sign draft of len bytes from the front.

@@ -1,4 +1,5 @@
 use crate::status::OK;
+use crate::status::put_start;
 use fields::tags;
 use tlv::writer::put_header;
 use tlv::writer::put_tlv;
@@ -31,8 +32,7 @@ pub fn put_info(out: &mut [u8], aaid: &[u8], metadata: &[u8]) -> usize
     requires { ⌜ (length (now aaid) ≡ 9) × (length (now metadata) ≡ 15) × (94 ≤ length (now out)) ⌝ }
     ensures { λ r. ⌜ Wrote (now (out .entry)) 0 (infoWritten (now (aaid .entry)) (now (metadata .entry))) 94 (now (out .exit)) r ⌝ }
 {
-    let a1 = put_header(out, 0, tags::GETINFO_CMD_RESPONSE, 90);
-    let a2 = put_tlv16(out, a1, tags::STATUS_CODE, OK);
-    let a3 = put_tlv(out, a2, tags::API_VERSION, b"\x01");
-    put_authenticator_info(out, a3, aaid, metadata)
+    let a1 = put_start(out, tags::GETINFO_CMD_RESPONSE, 90, OK);
+    let a2 = put_tlv(out, a1, tags::API_VERSION, b"\x01");
+    put_authenticator_info(out, a2, aaid, metadata)
 }

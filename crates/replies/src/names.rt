@@ -1,4 +1,5 @@
 use crate::status::OK;
+use crate::status::put_start;
 use fields::tags;
 use stored_table::lookups::Chosen;
 use stored_table::records::key_of;
@@ -6,7 +7,6 @@ use stored_table::records::name_len;
 use stored_table::records::name_of;
 use tlv::writer::put_header;
 use tlv::writer::put_tlv;
-use tlv::writer::put_tlv16;
 ghost use mathlib.Core.Path.{_≡_};
 ghost use Prim.Native.Nat.{_+_, _≤_};
 ghost use mathlib.Core.List.{[], _∷_};
@@ -82,7 +82,6 @@ pub fn put_names(out: &mut [u8], len: usize, table: &[u8], places: &[usize], nam
     requires { ⌜ (len ≡ 10 + pairsSize (recordsAt (tableIn (now table)) named)) × (len ≤ length (now out)) ⌝ }
     ensures { λ r. ⌜ Wrote (now (out .entry)) 0 (nameResponse (recordsAt (tableIn (now (table .entry))) named)) len (now (out .exit)) r ⌝ }
 {
-    let a1 = put_header(out, 0, tags::SIGN_CMD_RESPONSE, len - 4);
-    let a2 = put_tlv16(out, a1, tags::STATUS_CODE, OK);
-    put_pairs(out, a2, table, places, named)
+    let a = put_start(out, tags::SIGN_CMD_RESPONSE, len - 4, OK);
+    put_pairs(out, a, table, places, named)
 }

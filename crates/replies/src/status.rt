@@ -4,9 +4,9 @@ use tlv::writer::put_header;
 use tlv::writer::put_tlv16;
 ghost use mathlib.Core.Path.{_≡_};
 ghost use Prim.Native.Nat.{_≤_};
-ghost use mathlib.Core.List.{[], _∷_};
+ghost use mathlib.Core.List.{[], _∷_, _++_};
 ghost use lib.ListN.{length};
-ghost use Rattle.model.specs.Tlv.{le, responseTag};
+ghost use Rattle.model.specs.Tlv.{le, header, tlv, bytes, responseTag};
 ghost use Rattle.model.specs.Layouts.{write};
 ghost use Rattle.model.specs.Commands.{statusOnly};
 ghost use Rattle.tlv.specs.Writing.{Wrote};
@@ -50,12 +50,20 @@ fn response_tag(kind: Kind) -> usize
     }
 }
 
+// Writes how every response starts: its header, which says that the value has n bytes, and its status.
+pub fn put_start(out: &mut [u8], tag: usize, n: usize, status: usize) -> usize
+    requires { ⌜ 10 ≤ length (now out) ⌝ }
+    ensures { λ r. ⌜ Wrote (now (out .entry)) 0 (header tag n ++ bytes (tlv 0x2808 (le 2 status) ∷ [])) 10 (now (out .exit)) r ⌝ }
+{
+    let a = put_header(out, 0, tag, n);
+    put_tlv16(out, a, tags::STATUS_CODE, status)
+}
+
 // Writes a response that holds a status only.
 pub fn put_status(out: &mut [u8], kind: Kind, status: usize) -> usize
     requires { ⌜ 10 ≤ length (now out) ⌝ }
     ensures { λ r. ⌜ Wrote (now (out .entry)) 0 (write (statusOnly (kindIs kind)) (le 2 status ∷ [])) 10 (now (out .exit)) r ⌝ }
 {
     let tag = response_tag(kind);
-    let a = put_header(out, 0, tag, 6);
-    put_tlv16(out, a, tags::STATUS_CODE, status)
+    put_start(out, tag, 6, status)
 }

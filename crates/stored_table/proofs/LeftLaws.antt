@@ -4,11 +4,10 @@ use mathlib.Core.Path.{_≡_, refl, sym, ap, _∙_}
 use mathlib.Core.Bool.{Bool, true, false}
 use mathlib.Core.List.{List, [], _∷_, _++_, append-assoc}
 use Prim.Native.Nat.{ℕ, suc, _+_, _-_, _≤_, _<_}
-use native.Mathlib.Nat.{sub-zero}
 use native.Mathlib.Numerals.{add-one}
 use native.Mathlib.Omega.{arith}
 use lib.ListN.{length, getD, take, drop, set, length-append, length-drop}
-use lib.Seq.{take-suc, take-all, take-at, drop-at, set-split, split-at}
+use lib.Seq.{length-take-le, take-suc, take-all, take-at, drop-at, take-append-le, drop-append-le, set-split, split-at}
 use Rattle.model.specs.Lists.{select}
 use Rattle.model.specs.Tlv.{le, tlv, bytes, header, pairTag}
 use Rattle.model.specs.Records as model
@@ -18,9 +17,8 @@ use Rattle.model.proofs.Basics.{split, select-append}
 use Rattle.model.proofs.Numbers.{length-le}
 use Rattle.model.proofs.Rules.{obeys-rules, tests}
 use Rattle.model.proofs.StoredForm.{length-records}
-use Rattle.tlv.specs.Heads.{between}
 use Rattle.tlv.specs.Writing.{Wrote}
-use Rattle.tlv.proofs.WriteLaws.{then, then-run, then-value, same, from-front, wrote-none}
+use Rattle.tlv.proofs.WriteLaws.{then, then-run, then-value, same, front, from-front, wrote-none}
 use Rattle.stored_table.specs.Stored.{besideName, countAt, recordOf, noRecord, recordAt, tableIn, Indexed}
 use Rattle.stored_table.specs.Changes.{goes, removal, stayingOf}
 use Rattle.stored_table.proofs.IndexLaws.{inside, upTo, encode-one, encode-append, encode-count, length-upTo, record-at, numbered, place-is}
@@ -62,6 +60,20 @@ module _ {table : List ℕ} (t : model.Table) (whole : encode t ≡ table) where
 
 -- ---- another count
 
+-- a write at the front, and one inside it
+wrote-over : {d d₁ d₂ xs ys : List ℕ} {place n m r r₂ : ℕ} → Wrote d 0 xs n d₁ r → Wrote d₁ place ys m d₂ r₂
+    → place + m ≤ length xs → Wrote d 0 (take place xs ++ (ys ++ drop (place + m) xs)) n d₂ r
+wrote-over {d} {d₁} {d₂} {xs} {ys} {place} {n} {m} p q h =
+    let rest : List ℕ = drop n d in
+    let zs : List ℕ = take place xs ++ (ys ++ drop (place + m) xs) in
+    let l : length zs ≡ n =
+    simp (length-append, length-drop) (omega (arith, p .size, q .size, length-take-le place xs (omega arith))) in
+    let f : take place (xs ++ rest) ≡ take place xs = take-append-le place xs rest (omega arith) in
+    let g : drop (place + m) (xs ++ rest) ≡ drop (place + m) xs ++ rest = drop-append-le (place + m) xs rest h in
+    let b : d₂ ≡ zs ++ rest = q .bytes ∙ rw (q .size, front p .1, f, g) (simp append-assoc) in
+    let z : 0 + length zs ≡ n = omega (arith, l) in
+    record { size = l; room = p .room; next = p .next; bytes = b ∙ rw z }
+
 module _ {table places : List ℕ} (x : Indexed table places) (i : ℕ) (h : i < length places) where
   abbrev t : model.Table
   t = tableIn table
@@ -87,24 +99,21 @@ module _ {table places : List ℕ} (x : Indexed table places) (i : ℕ) (h : i <
       let l = length-upTo old (obeys-rules t (x .ok) .each i (numbered x i h)) in
       simp length-append (omega (arith, l, place-is x i h, record-at x i h .size))
 
-  -- the bytes up to the counter, a count, the bytes behind
-  pub wrote-counted : {d d₁ d₂ d₃ : List ℕ} {place n m a₁ a₂ a₃ : ℕ} (count : ℕ) → place ≡ countAt table (getD places i 0)
-      → Wrote d 0 (between table 0 place) n d₁ a₁
-      → Wrote d₁ a₁ (le 4 count) 4 d₂ a₂
-      → Wrote d₂ a₂ (between table (place + 4) (length table)) m d₃ a₃
-      → Wrote d 0 (encode (set (tableIn table) i (withCount (getD (tableIn table) i noRecord) count))) a₃ d₃ a₃
-  wrote-counted {place = place} count e p q s =
+  -- the table, and a count over the old one
+  pub wrote-counted : {d d₁ d₂ : List ℕ} {place n r r₂ : ℕ} (count : ℕ) → place ≡ countAt table (getD places i 0)
+      → Wrote d 0 table n d₁ r
+      → Wrote d₁ place (le 4 count) 4 d₂ r₂
+      → Wrote d 0 (encode (set (tableIn table) i (withCount (getD (tableIn table) i noRecord) count))) r d₂ r
+  wrote-counted {place = place} count e p q =
       let l : length ahead ≡ place = omega (arith, length-ahead) in
       let f : take place table ≡ ahead = ap (take place) as-stored ∙ take-at ahead _ place l in
       let c : List ℕ = le 4 (old .count) in
       let k : length (ahead ++ c) ≡ place + 4 = omega (arith, length-append ahead c, length-le 4 (old .count)) in
       let g : drop (place + 4) table ≡ behind =
       ap (drop (place + 4)) as-stored ∙ rw (← append-assoc) (drop-at (ahead ++ c) behind (place + 4) k) in
-      let rest : List ℕ = between table (place + 4) (length table) in
-      let u : rest ≡ drop (place + 4) table = take-all (length table - (place + 4)) _ (simp length-drop (omega arith)) in
-      let w : (between table 0 place ++ le 4 count) ++ rest ≡ encode (set t i (withCount old count)) =
-      rw (sub-zero, f, u ∙ g, set-split t i (withCount old count) (numbered x i h), around count) (simp append-assoc) in
-      from-front (same w refl (then (then p q) s))
+      let w : take place table ++ (le 4 count ++ drop (place + 4) table) ≡ encode (set t i (withCount old count)) =
+      rw (f, g, set-split t i (withCount old count) (numbered x i h), around count) in
+      from-front (same w refl (wrote-over p q (omega (arith, record-at x i h .stands))))
 
 -- ---- records less
 

@@ -80,7 +80,7 @@ fn put_added(out: &mut [u8], table: &[u8], key_id: &[u8], mixed: &[u8], name: &[
     put_record(out, end, key_id, mixed, name, 0)
 }
 
-// The table with another count in record i.
+// The table with another count in record i: the same bytes, and the count over the old one.
 fn put_counted(out: &mut [u8], table: &[u8], places: &[usize], i: usize, count: u32) -> usize
     requires { ⌜ Indexed (now table) (now places) × (i < length (now places)) × (length (now table) ≤ length (now out)) ⌝ }
     ensures { λ r. ⌜
@@ -88,10 +88,9 @@ fn put_counted(out: &mut [u8], table: &[u8], places: &[usize], i: usize, count: 
         (encode (set (tableIn (now (table .entry))) i (withCount (getD (tableIn (now (table .entry))) i noRecord) count))) r (now (out .exit)) r ⌝ }
 {
     let place = count_place(table, places[i]);
-    let rest = place + 4;
-    let a1 = put_bytes(out, 0, &table[0..place]);
-    let a2 = put32(out, a1, count as usize);
-    put_bytes(out, a2, &table[rest..])
+    let end = put_bytes(out, 0, table);
+    put32(out, place, count as usize);
+    end
 }
 
 // Whether the record at a place goes: it has the mixed token and, unless the KeyID is empty, the KeyID.

@@ -2,7 +2,7 @@ use crate::numbers::put16;
 use crate::numbers::put32;
 ghost use Prim.Native.Nat.{_+_, _≤_};
 ghost use mathlib.Core.List.{[], _∷_};
-ghost use lib.ListN.{length, take};
+ghost use lib.ListN.{length};
 ghost use Rattle.model.specs.Tlv.{le, header, tlv, bytes};
 ghost use Rattle.tlv.specs.Writing.{Wrote};
 
@@ -35,14 +35,6 @@ pub fn put_tlv(out: &mut [u8], at: usize, tag: usize, v: &[u8]) -> usize
 {
     let a = put_header(out, at, tag, v.len());
     put_bytes(out, a, v)
-}
-
-// Writes a TLV whose value is the first n bytes of v.
-pub fn put_tlv_part(out: &mut [u8], at: usize, tag: usize, v: &[u8], n: usize) -> usize
-    requires { ⌜ (n ≤ length (now v)) × (at + (4 + n) ≤ length (now out)) ⌝ }
-    ensures { λ r. ⌜ Wrote (now (out .entry)) at (bytes (tlv tag (take n (now (v .entry))) ∷ [])) (4 + n) (now (out .exit)) r ⌝ }
-{
-    put_tlv(out, at, tag, &v[..n])
 }
 
 // Writes a TLV whose value is a number in two bytes.

@@ -1,8 +1,9 @@
--- With content the whole hash is written, which has 32 bytes, and else none of it.
+-- With content the whole hash is written, which has 32 bytes, and else a header alone.
 use mathlib.Core.Path.{refl}
 use native.Mathlib.Omega.{arith}
 use borrow.Author.Needs.{needs}
 use Rattle.tlv.proofs.WriteLaws.{same}
+use Rattle.replies.proofs.WriterLaws.{wrote-empty}
 use Rattle.replies.proofs.drafts.put_content_hash.Statement.{statement}
 use Rattle.replies.proofs.drafts.put_content_hash.Tie as tie
 
@@ -17,17 +18,16 @@ returns c =
     let s = b .before .before .before .before .before in
     rw (b .before .before .if1 .taken) (same refl (omega (arith, s .pre .0)) (b .put-tlv .ensures))
 
-put-tlv-part-requires : tie.Need-put-tlv-part-requires
-put-tlv-part-requires c κs =
+put-header-requires : tie.Need-put-header-requires
+put-header-requires c κs =
     let s = c .before .before .before .before in
-    let room = rw (c .before .if1 .left) at (s .pre .1) in
-    (omega arith, omega (arith, room))
+    rw (c .before .if1 .left) at (s .pre .1)
 
 returns-2 : tie.Need-returns-2
 returns-2 c =
     let b = c .before .before in
-    rw (b .before .before .if1 .left) (b .put-tlv-part .ensures)
+    rw (b .before .before .if1 .left) (wrote-empty _ (b .put-header .ensures))
 
 pub put-content-hash-spec : {M : Type 1} → statement M
 put-content-hash-spec =
-    tie.close (tie.spec put-tlv-requires (λ c. search needs) returns put-tlv-part-requires (λ c. search needs) returns-2)
+    tie.close (tie.spec put-tlv-requires (λ c. search needs) returns put-header-requires (λ c. search needs) returns-2)

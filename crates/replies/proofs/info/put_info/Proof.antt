@@ -1,4 +1,4 @@
--- A header that says 90, the status, the version and the information of 79 bytes.
+-- The start, whose header says 90, the version and the information of 79 bytes.
 use borrow.Author.Needs.{needs}
 use Rattle.replies.proofs.WriterLaws.{wrote-info}
 use Rattle.replies.proofs.info.put_info.Statement.{statement}
@@ -6,14 +6,12 @@ use Rattle.replies.proofs.info.put_info.Tie as tie
 
 returns : tie.Need-returns
 returns c =
-    let b4 = c .before .before in
-    let b3 = b4 .before .before .before .before in
-    let b2 = b3 .before .before .before .before .before in
-    let b1 = b2 .before .before .before .before in
-    wrote-info _ _ (b1 .put-header .ensures) (b2 .put-tlv16 .ensures) (b3 .put-tlv .ensures) (b4 .put-authenticator-info .ensures)
+    let b3 = c .before .before in
+    let b2 = b3 .before .before .before .before in
+    let b1 = b2 .before .before .before .before .before in
+    wrote-info _ _ (b1 .put-start .ensures) (b2 .put-tlv .ensures) (b3 .put-authenticator-info .ensures)
 
 pub put-info-spec : {M : Type 1} → statement M
 put-info-spec =
     tie.close
-    (tie.spec (λ c κs. search needs) (λ c κs. search needs) (λ c. search needs) (λ c κs. search needs) (λ c κs. search needs)
-    (λ c. search needs) returns)
+    (tie.spec (λ c κs. search needs) (λ c. search needs) (λ c κs. search needs) (λ c κs. search needs) (λ c. search needs) returns)
