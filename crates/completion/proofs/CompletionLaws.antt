@@ -23,7 +23,7 @@ use Rattle.tlv.proofs.HeadLaws.{empty-size}
 use Rattle.tlv.proofs.WriteLaws.{front}
 use Rattle.layouts.proofs.SizeLaws.{reads-most}
 use Rattle.fields.specs.Refusals.{ended, ends}
-use Rattle.fields.specs.declared.refusals.Written.the-variants.{Refused, Wrote as Written}
+use Rattle.fields.specs.declared.refusals.Written.the-variants as written
 use Rattle.completion.specs.Completions.{completion}
 
 -- ---- the draft
@@ -83,7 +83,7 @@ seal-alone x e = sym e
 
 -- ---- what the function gives
 
-pub ends-refused : (n : ℕ) {o : Result (List ℕ)} {out : List ℕ} → o ≡ refused n → ended (Refused n) out ≡ ends o out
+pub ends-refused : (n : ℕ) {o : Result (List ℕ)} {out : List ℕ} → o ≡ refused n → ended (written.Refused n) out ≡ ends o out
 unfolding ends
 ends-refused n e = rw e
 
@@ -113,24 +113,24 @@ module _ {x : Completion} (p : Passes x) where
       split (eqb (x .type) surrogate) (λ j. eqb-true _ _ j) (λ j. clash (rw j at e) refl)
 
   module _ {out out′ : List ℕ} {r : ℕ} where
-    wrote-ends : {s : List ℕ} → completed x ≡ s → Wrote out 0 s r out′ r → ended (Written r) out′ ≡ ends (complete x) out
+    wrote-ends : {s : List ℕ} → completed x ≡ s → Wrote out 0 s r out′ r → ended (written.Wrote r) out′ ≡ ends (complete x) out
     unfolding ends
     wrote-ends e w = rw (completes x (p .room) (p .draft) (p .seal), e, w .size, front w .1)
 
     -- each writer's contract names only what a response of its form holds
     pub sign-ends : x .kind ≡ 1 → Wrote out 0 (completed (completion 1 (x .draft) 0 (x .signature) [] 0)) r out′ r
-        → ended (Written r) out′ ≡ ends (complete x) out
+        → ended (written.Wrote r) out′ ≡ ends (complete x) out
     unfolding completed
     sign-ends e w = wrote-ends (rw e) w
 
     pub full-ends : (x .kind ≡ 1 → ⊥) → x .type ≡ full
         → Wrote out 0 (completed (completion 0 (x .draft) full (x .signature) (x .certificate) 0)) r out′ r
-        → ended (Written r) out′ ≡ ends (complete x) out
+        → ended (written.Wrote r) out′ ≡ ends (complete x) out
     unfolding completed
     full-ends h i w = wrote-ends (rw (ne-eqb (x .kind) 1 h, i)) w
 
     pub surrogate-ends : (x .kind ≡ 1 → ⊥) → (x .type ≡ full → ⊥)
         → Wrote out 0 (completed (completion 0 (x .draft) surrogate (x .signature) [] 0)) r out′ r
-        → ended (Written r) out′ ≡ ends (complete x) out
+        → ended (written.Wrote r) out′ ≡ ends (complete x) out
     unfolding completed
     surrogate-ends h i w = wrote-ends (rw (ne-eqb (x .kind) 1 h, is-surrogate h i)) w

@@ -1,4 +1,6 @@
 // What an entry that gives no result says: document 01's numbers. A call checks 1 to 4 in this order, a completion 1, 5 and 4, the reader 5 alone.
+
+// An output shorter than what may be written into it.
 pub const SHORT_OUTPUT: u32 = 1;
 
 // The table, or its stored form, breaks a rule.

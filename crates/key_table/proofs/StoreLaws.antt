@@ -22,7 +22,7 @@ use Rattle.tlv.specs.Firsts.{firsts}
 use Rattle.tlv.proofs.FirstLaws.{firsts-take, length-firsts}
 use Rattle.tlv.proofs.WriteLaws.{then, same, front, from-front, wrote-none}
 use Rattle.fields.specs.Refusals.{ended, ends}
-use Rattle.fields.specs.declared.refusals.Written.the-variants.{Refused, Wrote as Written}
+use Rattle.fields.specs.declared.refusals.Written.the-variants as written
 use Rattle.stored_table.specs.Stored.{recordOf, besideName}
 use Rattle.stored_table.specs.Index.{IndexIs}
 use Rattle.stored_table.specs.declared.index.Index.{Index}
@@ -105,17 +105,17 @@ form-ok f x = sym (read-test _ _) ∙ ap given (sym (x .view) ∙ f .view) ∙ r
 -- ---- the stored form in an output
 
 module _ (t : model.Table) (out : List ℕ) where
-  pub stores-short : length out < maxStored → ended (Refused 1) out ≡ ends (storing t (length out)) out
+  pub stores-short : length out < maxStored → ended (written.Refused 1) out ≡ ends (storing t (length out)) out
   unfolding ends storing judge
   stores-short h = rw (lt-ltb _ _ h)
 
   module _ (h : maxStored ≤ length out) where
-    pub stores-broken : tableOk t ≡ false → ended (Refused 2) out ≡ ends (storing t (length out)) out
+    pub stores-broken : tableOk t ≡ false → ended (written.Refused 2) out ≡ ends (storing t (length out)) out
     unfolding ends storing judge
     stores-broken e = rw (le-ltb _ _ h, e)
 
     pub stores-form : {out′ : List ℕ} {n r : ℕ} → tableOk t ≡ true → Wrote out 0 (encode t) n out′ r
-        → ended (Written r) out′ ≡ ends (storing t (length out)) out
+        → ended (written.Wrote r) out′ ≡ ends (storing t (length out)) out
     unfolding ends storing judge
     stores-form {out′} {n} {r} e w =
         let k : r ≡ length (encode t) = omega (arith, w) in
