@@ -51,7 +51,7 @@ struct signing {
     size_t firm;
     struct bytes key_handle; /* of no bytes: none is given */
     const char *content;     /* "" is none */
-    uint8_t display;         /* what the display says to the content */
+    uint32_t display;        /* what the display says to the content */
 };
 
 /* Gives the account that the server books it to, or NULL where nothing was signed. */

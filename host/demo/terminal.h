@@ -20,8 +20,8 @@ struct request {
     struct command command;
     struct hash mixed;
     struct hash content_hash;
-    uint8_t verdict;
-    uint8_t display;
+    uint32_t verdict;
+    uint32_t display;
     uint32_t attestation; /* of a Register */
 };
 

@@ -13,8 +13,8 @@ struct table {
 
 /* What the firmware works out for a command beside the profile. The token does not look at what a command does not use. */
 struct lent {
-    uint8_t verdict;
-    uint8_t display;
+    uint32_t verdict;
+    uint32_t display;
     struct bytes mixed;
     struct bytes key_id;
     struct bytes public_key;

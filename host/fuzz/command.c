@@ -4,8 +4,12 @@
  *     16  size of the table's part, then the part: the stored form or, by records, 8 bytes for each: number of the KeyID, number of the
  *         holder, size of the name, its one letter, the counter (32)
  *     then each call:
- *     8   flags: 1 the command's outer length is put right
- *     8   verdict, display's result, number of the holder, number of the KeyID, a byte that fills the other lent stretches
+ *     8   flags: 1 the command's outer length is put right; 2 the verdict, 4 the display's result, 8 the version, 16 the signature
+ *         algorithm, 32 the key algorithm is changed in 32 bits
+ *     8   verdict, display's result, number of the holder, number of the KeyID, a byte that fills the other lent stretches and makes the
+ *         profile's numbers
+ *     32  for each flag of a number, in that order: its bits that are changed. So a number has 8 or 16 bits as a rule, and one that is out of
+ *         range keeps its low bits where these are 0
  *     8   sizes of AAID, metadata, mixed token, KeyID, nonce, hash and public key, as take_size has them
  *     8   by how much (signed) response and table output are longer than their least; -128 makes them empty
  *     8   0, or up to which size a skipped child fills the command: 8,188 and 1 to 16 more, or else so many times 256
@@ -25,7 +29,7 @@ enum {
 
 /* The input's second flag, and a call's. */
 enum { BY_RECORDS = 2 };
-enum { MEND_OUTER = 1 };
+enum { MEND_OUTER = 1, CHANGE_VERDICT = 2, CHANGE_DISPLAY = 4, CHANGE_VERSION = 8, CHANGE_SIGNATURE = 16, CHANGE_KEY = 32 };
 
 static struct {
     struct input command, aaid, metadata, mixed, key_id, public_key, nonce, hash, table;
@@ -137,8 +141,7 @@ static size_t take_command(struct source *source, unsigned flags)
 
 /* The lent results that are numbers. */
 struct numbers {
-    uint8_t verdict, display;
-    uint16_t version, signature_algorithm, key_algorithm;
+    uint32_t verdict, display, version, signature_algorithm, key_algorithm;
 };
 
 static void lend_numbered(struct input *input, size_t size, unsigned number, bool front)
@@ -147,9 +150,22 @@ static void lend_numbered(struct input *input, size_t size, unsigned number, boo
     lend_input(input, size, front);
 }
 
-static struct numbers take_results(struct source *source, bool front)
+/* The bits in which a number is changed. */
+static uint32_t take_change(struct source *source, unsigned flags, unsigned flag)
+{
+    return (flags & flag) != 0 ? take32(source) : 0;
+}
+
+static struct numbers take_results(struct source *source, unsigned flags, bool front)
 {
     uint8_t verdict = take8(source), display = take8(source), holder = take8(source), key = take8(source), fill = take8(source);
+    uint32_t version = fill * 257u;
+    struct numbers numbers = {verdict, display, version, version ^ 0x1234, version ^ 0xFFFF};
+    numbers.verdict ^= take_change(source, flags, CHANGE_VERDICT);
+    numbers.display ^= take_change(source, flags, CHANGE_DISPLAY);
+    numbers.version ^= take_change(source, flags, CHANGE_VERSION);
+    numbers.signature_algorithm ^= take_change(source, flags, CHANGE_SIGNATURE);
+    numbers.key_algorithm ^= take_change(source, flags, CHANGE_KEY);
     lend_filled(&lent.aaid, take_size(source), fill, front);
     lend_filled(&lent.metadata, take_size(source), fill + 1u, front);
     lend_numbered(&lent.mixed, take_size(source), holder, front);
@@ -157,8 +173,7 @@ static struct numbers take_results(struct source *source, bool front)
     lend_filled(&lent.nonce, take_size(source), fill + 2u, front);
     lend_filled(&lent.hash, take_size(source), fill + 3u, front);
     lend_filled(&lent.public_key, take_size(source), fill + 4u, front);
-    uint16_t version = (uint16_t)(fill * 257u);
-    return (struct numbers){verdict, display, version, (uint16_t)(version ^ 0x1234), (uint16_t)~version};
+    return numbers;
 }
 
 static void lend_outputs(struct source *source, bool front)
@@ -247,7 +262,7 @@ int LLVMFuzzerTestOneInput(const uint8_t *data, size_t size)
     size_t table_size = take_table(&source, (flags & BY_RECORDS) != 0);
     for (int calls = 0; calls < MOST_CALLS && (calls == 0 || source.left > 0); calls++) {
         unsigned how = take8(&source);
-        struct numbers numbers = take_results(&source, front);
+        struct numbers numbers = take_results(&source, how, front);
         lend_outputs(&source, front);
         lend_input(&lent.command, take_command(&source, how), front);
         lend_input(&lent.table, table_size, front);

@@ -7,9 +7,9 @@
 uint32_t peer_command(
     const uint8_t *command, size_t command_size,
     const uint8_t *aaid, size_t aaid_size,
-    uint16_t version, uint16_t signature_algorithm, uint16_t key_algorithm,
+    uint32_t version, uint32_t signature_algorithm, uint32_t key_algorithm,
     const uint8_t *metadata, size_t metadata_size,
-    uint8_t verdict, uint8_t display,
+    uint32_t verdict, uint32_t display,
     const uint8_t *mixed, size_t mixed_size,
     const uint8_t *key_id, size_t key_id_size,
     const uint8_t *public_key, size_t public_key_size,
@@ -29,7 +29,7 @@ uint32_t peer_complete(
     uint8_t *response, size_t response_size,
     size_t *response_length);
 
-uint32_t peer_signed_part(const uint8_t *response, size_t response_size, size_t *place, size_t *length);
+uint32_t peer_signed_part(const uint8_t *response, size_t response_size, size_t *place, size_t *part_length);
 
 uint32_t peer_read_fields(
     const uint8_t *response, size_t response_size,

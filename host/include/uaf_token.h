@@ -95,6 +95,10 @@ extern "C" {
  * Register at profile, verdict, mixed token, KeyID and public key; Sign at profile, verdict, display's result, mixed token, nonce and hash, so
  * that a Sign without content is lent 32 bytes too; Deregister at the mixed token; Open settings at nothing.
  *
+ * Numbers. Each lent number has 32 bits here, so that C cuts nothing off before the token judges it: as 8 bits a verdict of 256 would be 0,
+ * verified. Out of range, and so refusal 4 for a command that looks at it, are a verdict over 5, a display's result over 3, and a version, a
+ * signature algorithm or a key algorithm over 65,535, also where it would not be written.
+ *
  * After 0: *answer says what was written, *response_length how many bytes; the first *table_length bytes of table_out are the stored form of
  * the table left, which the next call is given. It has changed only after a draft or a Deregister with status OK: after any other status it is
  * the table that was given, byte for byte. A raised count must be in lasting storage before the signature over it leaves the token. A Sign's
@@ -105,9 +109,9 @@ extern "C" {
 uint32_t uaf_command(
     const uint8_t *command, size_t command_size,
     const uint8_t *aaid, size_t aaid_size,
-    uint16_t version, uint16_t signature_algorithm, uint16_t key_algorithm,
+    uint32_t version, uint32_t signature_algorithm, uint32_t key_algorithm,
     const uint8_t *metadata, size_t metadata_size,
-    uint8_t verdict, uint8_t display,
+    uint32_t verdict, uint32_t display,
     const uint8_t *mixed, size_t mixed_size,
     const uint8_t *key_id, size_t key_id_size,
     const uint8_t *public_key, size_t public_key_size,
@@ -138,8 +142,8 @@ uint32_t uaf_complete(
     size_t *response_length);
 
 /* The reader's first call: where in a response the signed structure stands, KRD or SIGNED_DATA with its four header bytes. Refusal: 5, also for
- * a draft alone. After 0 it is the *length bytes from *place on; both are 0 for a response without one. */
-uint32_t uaf_signed_part(const uint8_t *response, size_t response_size, size_t *place, size_t *length);
+ * a draft alone. After 0 it is the *part_length bytes from *place on; both are 0 for a response without one. */
+uint32_t uaf_signed_part(const uint8_t *response, size_t response_size, size_t *place, size_t *part_length);
 
 /* The reader's second call: the response tag, the status and, in order, the tag, the value's place and the value's length of each field, that
  * is of each TLV that holds no other. Refusal: 5, as above. After 0 the first *count rows of the three arrays are the fields', the rest are 0; a

@@ -1,2 +1,2 @@
--- The law of a call by value.
-mod RunLaws
+-- The laws of a call by value.
+pub mod RunLaws

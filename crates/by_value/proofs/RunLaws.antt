@@ -1,4 +1,5 @@
--- A call by value: the call on the form that its table is put into has the same result, and the table left is the one that is read again.
+-- A call by value: the call on the form that its table is put into has the same result, and the table left is the one that is read
+-- again, with what the call leaves as its view.
 -- Assumes nothing.
 use mathlib.Core.Path.{_≡_, refl, sym, ap, _∙_}
 use mathlib.Core.Bool.{Bool, true}
@@ -11,17 +12,21 @@ use lib.Seq.{take-at}
 use Rattle.model.specs.Records as model
 use Rattle.model.specs.Records.{maxStored, tableOk, encode, decode}
 use Rattle.model.specs.Commands.{Lent, Call, Given, value, stored, tableOf, refusals, perform, outcome, Result, refused, gave, Effect, bytesOf, over, Outputs, outputs}
+use Rattle.model.specs.Traces.{leftBy}
 use Rattle.model.proofs.Basics.{impossible}
+use Rattle.model.proofs.Rules.{tests}
 use Rattle.model.proofs.StoredForm.{decode-encode, length-encode}
 use Rattle.model.proofs.Kept.{kept}
 use Rattle.params.specs.Lent.{call}
 use Rattle.authenticator.specs.Outcomes.{isDraft, Told, told, said, toldOf, outputsOf, Ended, ended, ends}
 use Rattle.authenticator.specs.declared.outcome.Outcome.{Outcome}
 use Rattle.authenticator.specs.declared.outcome.Outcome.the-variants.{Refused, Gave}
-use Rattle.key_table.specs.Forms.{FormIs, LoadedIs}
+use Rattle.key_table.specs.Forms.{FormIs, loading}
+use Rattle.key_table.specs.Views.{viewTable}
 use Rattle.key_table.specs.declared.records.Table.{Table}
 use Rattle.key_table.specs.declared.forms.Loaded.{Loaded}
-use Rattle.by_value.specs.Runs.{Gives}
+use Rattle.key_table.proofs.TidyLaws.{view-of-value}
+use Rattle.by_value.specs.Runs as runs
 use Rattle.by_value.specs.declared.Answered.the-variants as answered
 
 -- ---- a result, by what is said of it
@@ -72,12 +77,12 @@ module _ {c : Call} {g : Given} {x : Outcome} {out out′ left′ : List ℕ} (p
   response-is = ap (λ (y : Outputs). y .response) (p .after)
 
   -- after a refusal the table is the one that came
-  pub gives-refused : (t : Table) {n : ℕ} → x ≡ Refused n
-      → Gives (outcome c g) t out out′ (record { answered = answered.Refused n; table = t })
-  unfolding outputs
-  gives-refused t {n} e =
-      let k : outcome c g ≡ refused n = refused-is (outcome c g) (sym (ap said e) ∙ p .result) in
-      record { says = rw k; output = response-is ∙ rw k; left = rw k; as-came = λ i h. refl; tidy = λ h. h }
+  pub ends-refused : (t : Table) {n : ℕ} → x ≡ Refused n
+      → runs.ended (record { answered = answered.Refused n; table = t }) out′ ≡ runs.ends (outcome c g) t out
+  unfolding outputs runs.ends
+  ends-refused t e =
+      let k = refused-is (outcome c g) (sym (ap said e) ∙ p .result) in
+      rw (response-is, k)
 
   -- else it is the one that is read again from its stored form
   module _ {d : Bool} {n m : ℕ} (e : x ≡ Gave d n m) where
@@ -104,14 +109,20 @@ module _ {c : Call} {g : Given} {x : Outcome} {out out′ left′ : List ℕ} (p
         let h : take m left′ ≡ s = ap (take m) f ∙ take-at s (drop (length s) (p .lent)) m (sym size-is) in
         ap decode h ∙ decode-encode left left-ok
 
-    pub gives-left : (t : Table) {r : Loaded} → LoadedIs (take m left′) r
-        → Gives (outcome c g) t out out′ (record { answered = answered.Gave d n; table = r .table })
-    unfolding outputs
-    gives-left t q =
-        record {
-          says = rw (done .is) (ap (λ (y : Told). gave (record { draft = y .draft; length = y .response })) (done .says));
-          output = response-is ∙ rw (done .is);
-          left = rw (done .is) (q .view ∙ rw left-read);
-          as-came = λ i h. impossible (cc (h, done .is));
-          tidy = λ h. q .tidy;
-        }
+    pub ends-left : (t : Table) {r : Loaded} → r ≡ loading (decode (take m left′))
+        → runs.ended (record { answered = answered.Gave d n; table = r .table }) out′ ≡ runs.ends (outcome c g) t out
+    unfolding outputs runs.ends loading
+    ends-left t q =
+        let s : runs.said (answered.Gave d n) ≡ runs.sizeOf (gave (done .effect)) =
+        ap (λ (y : Told). gave (record { draft = y .draft; length = y .response })) (done .says) in
+        rw (response-is, q, left-read, done .is, s)
+
+-- ---- the table handed back
+
+-- its view is the table that the call leaves
+pub left-view : (c : Call) (g : Given) (t : Table) → viewTable (runs.tableLeft (outcome c g) t) ≡ leftBy (outcome c g) (viewTable t)
+left-view c g t = go (outcome c g) refl
+  where
+    go : (o : Result Effect) → outcome c g ≡ o → viewTable (runs.tableLeft o t) ≡ leftBy o (viewTable t)
+    go (refused n) e = refl
+    go (gave f) e = let k = tests (f .left) (kept c g f e) in view-of-value (f .left) (k .few) (k .each)

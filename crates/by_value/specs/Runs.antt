@@ -1,14 +1,12 @@
 -- What a call by value says and leaves, in the words of `model`.
-use mathlib.Core.Path.{_≡_}
 use Prim.Native.Nat.{ℕ}
 use mathlib.Core.Bool.{Bool}
 use mathlib.Core.List.{List}
 use mathlib.Core.Option.{none}
 use lib.ListN.{length}
 use Rattle.model.specs.Commands.{Result, refused, gave, Effect, bytesOf, outputs}
-use Rattle.model.specs.Traces.{leftBy}
 use Rattle.authenticator.specs.Outcomes.{isDraft}
-use Rattle.key_table.specs.Views.{viewTable, Tidy}
+use Rattle.key_table.specs.Views.{tableValue}
 use Rattle.key_table.specs.declared.records.Table.{Table}
 use Rattle.by_value.specs.declared.Answered.{Answered}
 use Rattle.by_value.specs.declared.Answered.the-variants.{Refused, Gave}
@@ -28,10 +26,21 @@ abbrev pub sizeOf : Result Effect → Result Size
 sizeOf (refused n) = refused n
 sizeOf (gave e) = gave (record { draft = isDraft (e .answer); length = length (bytesOf (e .answer)) })
 
--- a call by value with this result: what it says, its response output, and the table; "after a refusal" the very value that came
-pub record Gives (o : Result Effect) (t : Table) (out out′ : List ℕ) (r : Ran) : Type 0 where
-  pub says : said (r .answered) ≡ sizeOf o
-  pub output : out′ ≡ outputs o (record { response = out; table = none }) .response
-  pub left : viewTable (r .table) ≡ leftBy o (viewTable t)
-  pub as-came : (n : ℕ) → o ≡ refused n → r .table ≡ t
-  pub tidy : Tidy t → Tidy (r .table)
+-- all that a call by value hands back: what it says, the table, the response output
+pub record Ended : Type 0 where
+  pub says : Result Size
+  pub table : Table
+  pub output : List ℕ
+
+abbrev pub ended : Ran → List ℕ → Ended
+ended r out = record { says = said (r .answered); table = r .table; output = out }
+
+-- "after a refusal" the very value that came; else the table left, its spare bytes zero
+abbrev pub tableLeft : Result Effect → Table → Table
+tableLeft (refused n) t = t
+tableLeft (gave e) t = tableValue (e .left)
+
+-- what a call with this result of the model hands back, where this table and this response output were lent
+unfoldable pub ends : Result Effect → Table → List ℕ → Ended
+ends o t out =
+    record { says = sizeOf o; table = tableLeft o t; output = outputs o (record { response = out; table = none }) .response }

@@ -6,12 +6,13 @@ use key_table::forms::put_form;
 use key_table::records::Table;
 use params::lent::Numbers;
 use stored_table::records::MAX_STORED;
+ghost use mathlib.Core.Path.{_≡_};
 ghost use mathlib.Core.Option.{none};
 ghost use lib.ListN.{length};
 ghost use Rattle.model.specs.Commands.{value, outcome};
 ghost use Rattle.params.specs.Lent.{lentOf, call};
 ghost use Rattle.key_table.specs.Views.{viewTable};
-ghost use Rattle.by_value.specs.Runs.{Gives};
+ghost use Rattle.by_value.specs.Runs.{ended, ends};
 
 // One refusal, by its number; or what was written: a response or a draft, of this length.
 pub enum Answered {
@@ -40,13 +41,14 @@ pub fn run(
     response: &mut [u8],
 ) -> Ran
     ensures { λ r. ⌜
-        Gives
+        ended r (now (response .exit))
+        ≡ ends
         (outcome
         (call (now (command .entry))
         (lentOf (now (aaid .entry)) numbers (now (metadata .entry)) (now (mixed .entry)) (now («key_id» .entry)) (now («public_key» .entry))
         (now (nonce .entry)) (now (hash .entry))) (length (now (response .entry))) none)
         (value (viewTable t)))
-        t (now (response .entry)) (now (response .exit)) r ⌝ }
+        t (now (response .entry)) ⌝ }
 {
     let mut form = [0u8; MAX_STORED];
     let size = put_form(&mut form, t);

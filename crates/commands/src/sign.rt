@@ -25,7 +25,7 @@ ghost use Rattle.commands.specs.Decisions.{Decides, DecidesOne};
 ghost use Rattle.commands.specs.declared.decision.Judged.the-variants.{Fails, Passes};
 
 // Sign's statuses before the choice: a rule broken, then the verdict.
-fn judge_sign(broken: bool, verdict: u8) -> Judged
+fn judge_sign(broken: bool, verdict: u32) -> Judged
     ensures { λ r. ⌜ r ≡ judge (userChecks broken verdict) Fails Passes ⌝ }
 {
     if broken {
@@ -38,7 +38,7 @@ fn judge_sign(broken: bool, verdict: u8) -> Judged
 }
 
 // The display result, which counts with content only, then the counter.
-fn judge_one(content: bool, display: u8, count: u32) -> Judged
+fn judge_one(content: bool, display: u32, count: u32) -> Judged
     ensures { λ r. ⌜ r ≡ judge (oneChecks content display count) Fails Passes ⌝ }
 {
     if content {
@@ -53,7 +53,7 @@ fn judge_one(content: bool, display: u8, count: u32) -> Judged
 }
 
 // One is chosen, with this count: record i.
-fn sign_one(content: bool, display: u8, count: u32, i: usize) -> Decision
+fn sign_one(content: bool, display: u32, count: u32, i: usize) -> Decision
     ensures { λ r. ⌜ DecidesOne content display count i r ⌝ }
 {
     let judged = judge_one(content, display, count);

@@ -3,7 +3,7 @@ ghost use mathlib.Core.Path.{_≡_};
 ghost use Rattle.model.specs.Commands.{verdictStatus, displayStatus};
 
 // The status of a verdict: denied, not enrolled, cancelled, no reply, locked out.
-pub fn verdict_status(verdict: u8) -> usize
+pub fn verdict_status(verdict: u32) -> usize
     ensures { λ r. ⌜ r ≡ verdictStatus verdict ⌝ }
 {
     match verdict {
@@ -17,7 +17,7 @@ pub fn verdict_status(verdict: u8) -> usize
 }
 
 // The status of a display result: cancelled, cannot render, no reply.
-pub fn display_status(display: u8) -> usize
+pub fn display_status(display: u32) -> usize
     ensures { λ r. ⌜ r ≡ displayStatus display ⌝ }
 {
     match display {

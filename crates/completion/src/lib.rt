@@ -15,8 +15,10 @@ use fields::tags;
 use layouts::Group;
 use layouts::after_group;
 ghost use mathlib.Core.Path.{_≡_};
-ghost use mathlib.Core.List.{[]};
+ghost use mathlib.Core.Bool.{not};
+ghost use mathlib.Core.List.{[], _∷_};
 ghost use lib.ListN.{length};
+ghost use Rattle.model.specs.Commands.{check, judge};
 ghost use Rattle.model.specs.Complete.{isDraft, completionOk, complete};
 ghost use Rattle.fields.specs.Refusals.{ended, ends};
 ghost use Rattle.completion.specs.Completions.{completion};
@@ -61,6 +63,22 @@ fn completion_ok(kind: u32, attestation: usize, signature: &[u8], certificate: &
     false
 }
 
+// The first refusal: 1 for a short output, 5 for a draft that no command can write, 4 for what is lent beside it; 0 if there is none.
+fn refusal_of(short: bool, drafted: bool, sealed: bool) -> u32
+    ensures { λ r. ⌜ r ≡ judge (check 1 short ∷ check 5 (not drafted) ∷ check 4 (not sealed) ∷ []) (λ n. n) 0 ⌝ }
+{
+    if short {
+        return SHORT_OUTPUT;
+    }
+    if !drafted {
+        return NOT_WRITTEN;
+    }
+    if !sealed {
+        return WRONG_LENT;
+    }
+    0
+}
+
 // Completes a draft.
 pub fn complete(
     kind: u32,
@@ -77,14 +95,11 @@ pub fn complete(
         (completion kind (now (draft .entry)) attestation (now (signature .entry)) (now (certificate .entry)) (length (now (out .entry)))))
         (now (out .entry)) ⌝ }
 {
-    if out.len() < LEAST_OUTPUT {
-        return Written::Refused(SHORT_OUTPUT);
-    }
-    if !is_draft(kind, draft) {
-        return Written::Refused(NOT_WRITTEN);
-    }
-    if !completion_ok(kind, attestation, signature, certificate) {
-        return Written::Refused(WRONG_LENT);
+    let drafted = is_draft(kind, draft);
+    let sealed = completion_ok(kind, attestation, signature, certificate);
+    let refusal = refusal_of(out.len() < LEAST_OUTPUT, drafted, sealed);
+    if refusal != 0 {
+        return Written::Refused(refusal);
     }
     if kind == SIGN {
         return Written::Wrote(put_sign(out, draft, signature));

@@ -3,7 +3,7 @@
 use mathlib.Core.Path.{_≡_, refl, sym, ap, _∙_}
 use mathlib.Core.Bool.{Bool, true, false}
 use mathlib.Core.List.{List, [], _∷_, _++_}
-use mathlib.Core.Option.{none, some, Option·map}
+use mathlib.Core.Option.{Option, none, some, Option·map}
 use Prim.Native.Nat.{ℕ, zero, suc, _+_, _/_}
 use lib.ListN.{length, replicate}
 use Rattle.model.specs.Lists.{first}
@@ -40,9 +40,17 @@ signCommand = asking sign (child challengeHash byte ∷ [])
 abbrev pub removeCommand : List ℕ
 removeCommand = asking deregister (child keyIdOrNone [] ∷ [])
 
--- a call of holder m that is lent KeyID k
+-- as the entries have it: a table by value without a table output, a stored one with an output of 6,912 bytes for holder 1 and more for others
+abbrev tableOutput : ℕ → Form → Option ℕ
+tableOutput m itself = none
+tableOutput m inStoredForm = some (6911 + m)
+
+-- a call of holder m that is lent KeyID k and a response output of n bytes
+abbrev calling : List ℕ → ℕ → ℕ → ℕ → Form → Step
+calling s m k n f = record { call = record { command = s; lent = lent m k; output = n; tableOutput = tableOutput m f }; form = f }
+
 abbrev pub step : List ℕ → ℕ → ℕ → Form → Step
-step s m k f = record { call = record { command = s; lent = lent m k; output = 4096; tableOutput = none }; form = f }
+step s m k f = calling s m k 4096 f
 
 -- ---- what a holder sees of them
 
@@ -64,7 +72,7 @@ told k n = record { answer = gave (response (write (statusOnly k) (le 2 n ∷ []
 
 -- the holder, who is 1, registers, signs and deregisters
 abbrev pub quiet : List Step
-quiet = step registerCommand 1 1 itself ∷ step signCommand 1 1 itself ∷ step removeCommand 1 1 itself ∷ []
+quiet = step registerCommand 1 1 inStoredForm ∷ step signCommand 1 1 itself ∷ step removeCommand 1 1 inStoredForm ∷ []
 
 -- 2 does so too, and 3 registers and signs, between the holder's calls
 abbrev pub busy : List Step
@@ -107,20 +115,21 @@ met =
 
 -- an output that is too short: refusal 1
 abbrev short : ℕ → ℕ → Form → Step
-short m k f = record { call = record { command = signCommand; lent = lent m k; output = 4095; tableOutput = none }; form = f }
+short m k f = calling signCommand m k 4095 f
 
 -- refusal 3
 abbrev noCommand : ℕ → ℕ → Form → Step
 noCommand m k f = step byte m k f
 
 abbrev refusing : List Step
-refusing = step registerCommand 1 1 itself ∷ short 1 1 itself ∷ noCommand 1 1 itself ∷ step signCommand 1 1 itself ∷ []
+refusing =
+    step registerCommand 1 1 itself ∷ short 1 1 inStoredForm ∷ noCommand 1 1 itself ∷ step signCommand 1 1 inStoredForm ∷ []
 
 -- the table is full from the 31 others on; 9 finds no place, twice, and the holder signs
 abbrev filling : List Step
 filling =
-    step signCommand 7 1 inStoredForm ∷ step registerCommand 1 1 inStoredForm
-    ∷ (crowd 31 ++ (step registerCommand 9 99 itself ∷ short 1 1 inStoredForm ∷ noCommand 5 1 itself ∷ noCommand 1 1 inStoredForm
+    step signCommand 7 1 inStoredForm ∷ step registerCommand 1 1 itself
+    ∷ (crowd 31 ++ (step registerCommand 9 99 itself ∷ short 1 1 inStoredForm ∷ noCommand 5 1 inStoredForm ∷ noCommand 1 1 itself
     ∷ step signCommand 1 1 inStoredForm ∷ step registerCommand 9 98 itself ∷ []))
 
 abbrev refusedWith : ℕ → Seen

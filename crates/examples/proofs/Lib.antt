@@ -1,6 +1,5 @@
 -- The computed tables and traces; docs/MAP.md says which sentence of document 01 each holds.
 pub mod Conditions
 pub mod Examples
-pub mod Traps
 pub mod Limits
 pub mod LimitsRead

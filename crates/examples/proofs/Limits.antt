@@ -14,9 +14,8 @@ use Rattle.model.specs.Records.{Table}
 use Rattle.model.specs.Commands.{Lent, Result, refused, gave, Answer, response, draft, outcome}
 use Rattle.model.specs.Traces.{Form, itself, inStoredForm, handed, answered}
 use Rattle.model.proofs.Basics.{and-left, and-right, eqBytes-eq}
-use Rattle.model.proofs.Computing.{computing, each-form}
+use Rattle.model.proofs.Computing.{computing, each-form, lent, stands}
 use Rattle.model.proofs.Witness.{zeros, lending}
-use Rattle.examples.proofs.Examples.{lent, stands}
 
 -- a line of a table: what is computed, and what document 01 says
 pub record Line : Type 0 where

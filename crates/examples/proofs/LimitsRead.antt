@@ -16,9 +16,8 @@ use Rattle.model.specs.Complete.{isDraft, completionOk, completed, complete}
 use Rattle.model.specs.Reader.{Part, partsAt, parts, fieldParts, isResponse, signedPart, readResponse}
 use Rattle.model.specs.Traces.{Form, itself, inStoredForm, handed}
 use Rattle.model.proofs.Basics.{numbersFrom}
-use Rattle.model.proofs.Computing.{computing, each-form}
+use Rattle.model.proofs.Computing.{computing, each-form, info, annThenBoListed, krd, signedDataOf}
 use Rattle.model.proofs.Witness.{zeros}
-use Rattle.examples.proofs.Examples.{info, annThenBoListed, krd, signedDataOf}
 use Rattle.examples.proofs.Limits.{Line, _gives_, Holds, holds}
 
 -- to unfold `reading` is to unfold all that a completion and the reader compute with

@@ -1,36 +1,41 @@
--- What tidy asks of the empty table and of a record stored after the last.
+-- The view of a table of the model by value is that table again, and a table by value whose spare bytes are zero is determined by its view.
 -- Assumes nothing.
 use mathlib.Core.Path.{_≡_, refl, sym, ap, _∙_}
-use mathlib.Core.List.{List, []}
-use Prim.Native.Nat.{ℕ, _+_, _<_}
+use mathlib.Core.Bool.{true}
+use mathlib.Core.List.{[], _∷_, map}
+use Prim.Native.Nat.{ℕ, zero, suc, _≤_}
 use native.Mathlib.Omega.{arith}
-use lib.Arith.{lt-of-le-ne}
-use lib.Dec.{eqb}
-use lib.ListN.{length, getD, drop, set}
-use lib.Seq.{getD-set-same, getD-set-other, drop-set-lt, drop-drop}
-use borrow.Author.Tests.{eqb-true, eqb-false}
-use Rattle.model.proofs.Basics.{split}
+use lib.ListN.{length}
+use Rattle.model.specs.Lists.{all}
+use Rattle.model.specs.Records as model
+use Rattle.model.specs.Records.{recordOk}
+use Rattle.model.proofs.Basics.{and-left, and-right}
+use Rattle.model.proofs.Rules.{record-rules}
 use Rattle.tlv.specs.Firsts.{firsts}
-use Rattle.key_table.specs.Views.{noValue, spareRecord, noTable, TidyRecord, Tidy}
-use Rattle.key_table.specs.declared.records.Record.{Record}
+use Rattle.tlv.proofs.FirstLaws.{firsts-firsts}
+use Rattle.key_table.specs.Views.{viewRecord, viewTable, noValue, spareRecord, recordValue, tableValue, Tidy}
 use Rattle.key_table.specs.declared.records.Table.{Table}
-use Rattle.key_table.proofs.ViewLaws.{tableWith}
 
-pub tidy-none : Tidy noTable
-unfolding noTable
-tidy-none = record { names = λ i h. absurd (omega arith); rest = refl }
+view-of-record : (r : model.Record) → recordOk r ≡ true → viewRecord (recordValue r) ≡ r
+view-of-record r ok = rw (firsts-firsts 0 128 (r .name) (record-rules r ok .name-most))
 
--- two lists that are the same from place k on, with the one at k set
-same-next : {A : Type 0} (k : ℕ) (a b : List A) (x : A) → drop k a ≡ drop k b → drop (k + 1) (set a k x) ≡ drop (k + 1) b
-same-next k a b x e = drop-set-lt (k + 1) a k x (omega arith) ∙ sym (drop-drop 1 k a) ∙ ap (drop 1) e ∙ drop-drop 1 k b
+-- in an array of n records
+view-of-records : (n : ℕ) (t : model.Table) → length t ≤ n → all recordOk t ≡ true
+    → map viewRecord (firsts noValue (length t) (firsts spareRecord n (map recordValue t))) ≡ t
+unfolding firsts
+view-of-records n [] h ok = refl
+view-of-records zero (r ∷ t) h ok = absurd (omega arith)
+view-of-records (suc n) (r ∷ t) h ok =
+    cc (view-of-record r (and-left (recordOk r) _ ok), view-of-records n t (omega arith) (and-right (recordOk r) _ ok))
 
-module _ (t : Table) (p : Tidy t) (r : Record) (q : TidyRecord r) (h : t .len < length (t .records)) where
-  names-next : (j : ℕ) → j < t .len + 1 → TidyRecord (getD (set (t .records) (t .len) r) j noValue)
-  names-next j l =
-      split (eqb j (t .len))
-      (λ e. rw (eqb-true j (t .len) e, getD-set-same (t .records) (t .len) r noValue h) q)
-      (λ e. rw (getD-set-other (t .records) (t .len) j r noValue (eqb-false j (t .len) e))
-      (p .names j (lt-of-le-ne (omega arith) (eqb-false j (t .len) e))))
+module _ (t : model.Table) (few : length t ≤ 32) (ok : all recordOk t ≡ true) where
+  pub view-of-value : viewTable (tableValue t) ≡ t
+  unfolding viewTable tableValue
+  view-of-value = view-of-records 32 t few ok
 
-  pub tidy-next : Tidy (tableWith (set (t .records) (t .len) r) (t .len + 1))
-  tidy-next = record { names = names-next; rest = same-next (t .len) (t .records) (firsts spareRecord 32 []) r (p .rest) }
+  pub value-tidy : Tidy (tableValue t)
+  value-tidy = ap tableValue (sym view-of-value)
+
+-- a tidy table is determined by its view
+pub tidy-determined : (t u : Table) → Tidy t → Tidy u → viewTable t ≡ viewTable u → t ≡ u
+tidy-determined t u p q e = p ∙ ap tableValue e ∙ sym q

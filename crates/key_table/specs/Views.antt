@@ -1,9 +1,9 @@
--- A record by value as the model's, and a table by value as its list of records. Spare bytes do not count: those of a name past its length, and what
--- stands past the last record.
+-- A record by value as the model's, and a table by value as its list of records; and both back. Spare bytes do not count: those of a name past its
+-- length, and what stands past the last record.
 use mathlib.Core.Path.{_≡_}
-use Prim.Native.Nat.{ℕ, _<_}
+use Prim.Native.Nat.{ℕ}
 use mathlib.Core.List.{List, [], map}
-use lib.ListN.{length, getD, drop}
+use lib.ListN.{length}
 use Rattle.model.specs.Records as model
 use Rattle.tlv.specs.Firsts.{firsts}
 use Rattle.stored_table.specs.Stored.{recordOf}
@@ -26,19 +26,18 @@ spareRecord = record { «key_id» = firsts 0 32 []; mixed = firsts 0 32 []; name
 abbrev pub valueOf : List ℕ → List ℕ → List ℕ → ℕ → Record
 valueOf k m v n = record { «key_id» = k; mixed = m; name = firsts 0 128 v; «name_len» = length v; count = n }
 
--- the empty table
-unfoldable pub noTable : Table
-noTable = record { records = firsts spareRecord 32 []; len = 0 }
-
 -- oldest first; a number above 32 is that many records here too, and so breaks the rule for tables
 unfoldable pub viewTable : Table → model.Table
 viewTable t = map viewRecord (firsts noValue (t .len) (t .records))
 
--- spare bytes are zero in a record
-abbrev pub TidyRecord : Record → Type 0
-TidyRecord r = r .name ≡ firsts 0 128 (firsts 0 (r .«name_len») (r .name))
+-- a record of the model by value: its spare bytes are zero
+abbrev pub recordValue : model.Record → Record
+recordValue r = valueOf (r .keyId) (r .mixed) (r .name) (r .count)
 
--- spare bytes are zero in a table, in each record and past the last
-pub record Tidy (t : Table) : Type 0 where
-  pub names : (i : ℕ) → i < t .len → TidyRecord (getD (t .records) i noValue)
-  pub rest : drop (t .len) (t .records) ≡ drop (t .len) (firsts spareRecord 32 [])
+-- a table of the model by value: spare bytes are zero, in each record and past the last
+unfoldable pub tableValue : model.Table → Table
+tableValue t = record { records = firsts spareRecord 32 (map recordValue t); len = length t }
+
+-- a table by value whose spare bytes are zero
+abbrev pub Tidy : Table → Type 0
+Tidy t = t ≡ tableValue (viewTable t)

@@ -22,12 +22,12 @@ ghost use mathlib.Core.List.{[], _∷_};
 ghost use lib.Dec.{leb};
 ghost use lib.ListN.{length, take};
 ghost use Rattle.model.specs.Lists.{all};
-ghost use Rattle.model.specs.Records.{recordOk, maxRecords, encode, maxStored};
+ghost use Rattle.model.specs.Records.{recordOk, maxRecords, encode, maxStored, decode};
 ghost use Rattle.tlv.specs.Writing.{Wrote};
 ghost use Rattle.fields.specs.Refusals.{ended, ends};
 ghost use Rattle.stored_table.specs.Stored.{besideName, recordAt, Indexed, tableIn};
-ghost use Rattle.key_table.specs.Views.{viewRecord, viewTable, TidyRecord, Tidy};
-ghost use Rattle.key_table.specs.Forms.{FormIs, storing, LoadedIs, ValueAt};
+ghost use Rattle.key_table.specs.Views.{viewRecord, viewTable, recordValue, tableValue};
+ghost use Rattle.key_table.specs.Forms.{FormIs, storing, loading, ValueAt};
 
 // The first n bytes of an array that is as long as its type says.
 fn name_in(v: &[u8], n: usize) -> &[u8]
@@ -97,7 +97,7 @@ pub fn store(t: Table, out: &mut [u8]) -> Written
 // The record at a place of a stored table, by value.
 fn value_at(table: &[u8], place: usize) -> Record
     requires { ⌜ ValueAt (now table) place ⌝ }
-    ensures { λ r. ⌜ (viewRecord r ≡ recordAt (now (table .entry)) place) × TidyRecord r ⌝ }
+    ensures { λ r. ⌜ r ≡ recordValue (recordAt (now (table .entry)) place) ⌝ }
 {
     let key_id = key_of(table, place);
     let mixed = mixed_of(table, place);
@@ -107,7 +107,7 @@ fn value_at(table: &[u8], place: usize) -> Record
 // All records of a stored table, by value.
 fn values_at(table: &[u8], places: &[usize]) -> Table
     requires { ⌜ Indexed (now table) (now places) ⌝ }
-    ensures { λ r. ⌜ (viewTable r ≡ tableIn (now (table .entry))) × Tidy r ⌝ }
+    ensures { λ r. ⌜ r ≡ tableValue (tableIn (now (table .entry))) ⌝ }
 {
     let empty = no_table();
     let mut records = empty.records;
@@ -127,7 +127,7 @@ pub struct Loaded {
 
 // Reads a table from its stored form: refusal 2 for a stretch that is the stored form of no table.
 pub fn load(stored: &[u8]) -> Loaded
-    ensures { λ r. ⌜ LoadedIs (now (stored .entry)) r ⌝ }
+    ensures { λ r. ⌜ r ≡ loading (decode (now (stored .entry))) ⌝ }
 {
     let index = index_of(stored);
     if !index.ok {

@@ -2,9 +2,10 @@ use stored_table::records::MAX_RECORDS;
 use tlv::writer::put_bytes;
 ghost use mathlib.Core.Path.{_≡_};
 ghost use Prim.Native.Nat.{_≤_};
+ghost use mathlib.Core.List.{[]};
 ghost use lib.ListN.{length};
 ghost use Rattle.tlv.specs.Firsts.{firsts};
-ghost use Rattle.key_table.specs.Views.{valueOf, spareRecord, noTable};
+ghost use Rattle.key_table.specs.Views.{valueOf, spareRecord, tableValue};
 
 // A record. The name is the first name_len bytes of its array.
 pub struct Record {
@@ -73,7 +74,7 @@ fn spare() -> Record
 
 // The empty table.
 pub fn no_table() -> Table
-    ensures { λ r. ⌜ r ≡ noTable ⌝ }
+    ensures { λ r. ⌜ r ≡ tableValue [] ⌝ }
 {
     let empty = spare();
     Table {

@@ -23,7 +23,7 @@ use Rattle.model.proofs.Fields.{field-fits}
 
 -- ---- the table of a call that is given one obeys the rules
 
-guarded : {A : Type 0} (b : Bool) {x y : A} → cond b (some x) none ≡ some y → (b ≡ true) × (x ≡ y)
+pub guarded : {A : Type 0} (b : Bool) {x y : A} → cond b (some x) none ≡ some y → (b ≡ true) × (x ≡ y)
 guarded true e = (refl, cc)
 guarded false e = impossible cc
 

@@ -1,6 +1,7 @@
 -- The laws of the definitions; docs/MAP.md says which sentence of document 01 each holds.
 pub mod Basics
 pub mod Computing
+pub mod Checklist
 pub mod Numbers
 pub mod Tlvs
 pub mod LayoutLaws

@@ -111,7 +111,7 @@ module _ (seen : List (List ℕ)) where
 -- ---- one call
 
 -- a table that obeys the rules is the same table in either form
-handed-same : (f : Form) (t : Table) → tableOk t ≡ true → tableOf (handed f t) ≡ some t
+pub handed-same : (f : Form) (t : Table) → tableOk t ≡ true → tableOf (handed f t) ≡ some t
 unfolding tableOf
 handed-same itself t e = rw e
 handed-same inStoredForm t e = decode-encode t e

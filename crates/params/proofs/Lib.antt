@@ -6,4 +6,3 @@ pub mod ChildLaws
 pub mod ValueLaws
 pub mod SlotLaws
 pub mod ParseLaws
-pub mod LentLaws

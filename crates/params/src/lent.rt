@@ -3,40 +3,60 @@ use fields::Field;
 use fields::fits;
 ghost use mathlib.Core.Path.{_≡_};
 ghost use mathlib.Core.Bool.{true, _&&_};
-ghost use lib.Dec.{leb};
+ghost use mathlib.Core.List.{[]};
+ghost use lib.Dec.{leb, ltb};
 ghost use Rattle.model.specs.Tlv.{fits};
 ghost use Rattle.model.specs.Tlv as model;
-ghost use Rattle.model.specs.Commands.{lentOk};
+ghost use Rattle.model.specs.Commands.{profileOk, lentOk};
 ghost use Rattle.params.specs.Kinds.{kindIs};
 ghost use Rattle.params.specs.Lent.{lentOf};
 
-// The lent numbers: the profile's, the fingerprint's verdict and the display's result. The lent stretches are parameters of their own, because a
-// struct of references is proved by hand.
+// The lent numbers: the profile's, the fingerprint's verdict and the display's result. Each has 32 bits, so that none is cut off before it is judged.
+// The lent stretches are parameters of their own, because a struct of references is proved by hand.
 pub struct Numbers {
-    pub version: u16,
-    pub signature_algorithm: u16,
-    pub key_algorithm: u16,
-    pub verdict: u8,
-    pub display: u8,
+    pub version: u32,
+    pub signature_algorithm: u32,
+    pub key_algorithm: u32,
+    pub verdict: u32,
+    pub display: u32,
 }
 
+// The profile's numbers have 16 bits.
+const PAST_16_BITS: u32 = 65536;
+
 // The verdict is 0 to 5, the display result 0 to 3.
-const LAST_VERDICT: u8 = 5;
+const LAST_VERDICT: u32 = 5;
 
-const LAST_DISPLAY: u8 = 3;
+const LAST_DISPLAY: u32 = 3;
 
-// The profile's numbers have 16 bits by their type.
-fn profile_ok(aaid: &[u8], metadata: &[u8]) -> bool
-    ensures { λ r. ⌜ r ≡ (fits model.aaid (now (aaid .entry)) && fits model.metadata (now (metadata .entry))) ⌝ }
+// The profile's numbers.
+fn numbers_ok(numbers: Numbers) -> bool
+    ensures { λ r. ⌜ r ≡ (ltb (numbers .version) 65536 && ltb (numbers .«signature_algorithm») 65536 && ltb (numbers .«key_algorithm») 65536) ⌝ }
+{
+    if PAST_16_BITS <= numbers.version {
+        return false;
+    }
+    if PAST_16_BITS <= numbers.signature_algorithm {
+        return false;
+    }
+    numbers.key_algorithm < PAST_16_BITS
+}
+
+// The profile.
+fn profile_ok(aaid: &[u8], numbers: Numbers, metadata: &[u8]) -> bool
+    ensures { λ r. ⌜ r ≡ profileOk (lentOf (now (aaid .entry)) numbers (now (metadata .entry)) [] [] [] [] []) ⌝ }
 {
     if !fits(Field::Aaid, aaid) {
         return false;
     }
-    fits(Field::Metadata, metadata)
+    if !fits(Field::Metadata, metadata) {
+        return false;
+    }
+    numbers_ok(numbers)
 }
 
 // What Register is lent besides the profile.
-fn register_ok(verdict: u8, mixed: &[u8], key_id: &[u8], public_key: &[u8]) -> bool
+fn register_ok(verdict: u32, mixed: &[u8], key_id: &[u8], public_key: &[u8]) -> bool
     ensures { λ r. ⌜ r ≡ (leb verdict 5 && fits model.mixedToken (now (mixed .entry)) && fits model.keyId (now («key_id» .entry)) && fits model.publicKey (now («public_key» .entry))) ⌝ }
 {
     if LAST_VERDICT < verdict {
@@ -88,15 +108,15 @@ pub fn lent_ok(
         (lentOf (now (aaid .entry)) numbers (now (metadata .entry)) (now (mixed .entry)) (now («key_id» .entry)) (now («public_key» .entry)) (now (nonce .entry)) (now (hash .entry))) ⌝ }
 {
     match kind {
-        Kind::GetInfo => profile_ok(aaid, metadata),
+        Kind::GetInfo => profile_ok(aaid, numbers, metadata),
         Kind::Register => {
-            if !profile_ok(aaid, metadata) {
+            if !profile_ok(aaid, numbers, metadata) {
                 return false;
             }
             register_ok(numbers.verdict, mixed, key_id, public_key)
         }
         Kind::Sign => {
-            if !profile_ok(aaid, metadata) {
+            if !profile_ok(aaid, numbers, metadata) {
                 return false;
             }
             sign_ok(numbers, mixed, nonce, hash)

@@ -1,7 +1,7 @@
 // The arguments of the calls, in one stretch of memory, and what their outputs hold before a call.
 use tlv::numbers::get16;
+use tlv::numbers::get32;
 use tlv::numbers::put16;
-use tlv::numbers::wide;
 use tlv::writer::put_bytes;
 ghost use Prim.Native.Nat.{_<_};
 
@@ -124,16 +124,13 @@ pub fn store(s: &[u8], n: usize, slot: usize, mem: &mut [u8]) {
     put_bytes(mem, at, &s[0..n]);
 }
 
-// The number in a slot, of one byte or two.
+// The number in a slot, of four bytes.
 pub fn number(mem: &[u8], slot: usize) -> usize
-    ensures { λ r. ⌜ r < 65536 ⌝ }
+    ensures { λ r. ⌜ r < 4294967296 ⌝ }
 {
     let v = arg(mem, slot);
-    if v.len() == 1 {
-        return wide(v[0]);
-    }
-    if v.len() < 2 {
+    if v.len() < 4 {
         return 0;
     }
-    get16(v, 0)
+    get32(v, 0)
 }

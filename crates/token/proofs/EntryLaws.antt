@@ -16,7 +16,7 @@ use Rattle.authenticator.specs.declared.outcome.Outcome.the-variants.{Refused, 
 use Rattle.token.specs.Returned.{gets, answerNumber, draftNumber, returned}
 
 -- the number of an answer is that of what is said of it
-number-is : (a : model.Answer) → draftNumber (isDraft a) ≡ answerNumber a
+pub number-is : (a : model.Answer) → draftNumber (isDraft a) ≡ answerNumber a
 number-is (model.response s) = refl
 number-is (model.draft s) = refl
 

@@ -2,4 +2,3 @@
 pub mod EntryLaws
 pub mod ResponseLaws
 pub mod RoundTrip
-pub mod SeparationOfCalls

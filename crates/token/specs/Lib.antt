@@ -1,4 +1,3 @@
 -- What the firmware gets back.
 pub mod Returned
 pub mod Responses
-pub mod Calls

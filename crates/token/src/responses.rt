@@ -50,17 +50,17 @@ pub extern "C" fn uaf_complete(
 
 // The reader's first call: 0 or the number of a refusal, and after 0 the place and the length of the signed structure.
 #[no_mangle]
-pub extern "C" fn uaf_signed_part(response: &[u8], place: &mut usize, length: &mut usize) -> u32
+pub extern "C" fn uaf_signed_part(response: &[u8], place: &mut usize, part_len: &mut usize) -> u32
     ensures { λ r. ⌜
-        points r (now (place .exit)) (now (length .exit))
-        ≡ pointed (readResponse (now (response .entry))) (points 0 (now (place .entry)) (now (length .entry))) ⌝ }
+        points r (now (place .exit)) (now («part_len» .exit))
+        ≡ pointed (readResponse (now (response .entry))) (points 0 (now (place .entry)) (now («part_len» .entry))) ⌝ }
 {
     if !is_response(response) {
         return NOT_WRITTEN;
     }
     let p = signed_in(response);
     *place = p.start;
-    *length = p.len();
+    *part_len = p.len();
     0
 }
 

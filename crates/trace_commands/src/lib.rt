@@ -42,11 +42,11 @@ struct Given {
 // The lent numbers in the slots.
 fn numbers_in(mem: &[u8]) -> Numbers {
     Numbers {
-        version: number(mem, VERSION) as u16,
-        signature_algorithm: number(mem, SIGNATURE_ALGORITHM) as u16,
-        key_algorithm: number(mem, KEY_ALGORITHM) as u16,
-        verdict: (number(mem, VERDICT) % 256) as u8,
-        display: (number(mem, DISPLAY) % 256) as u8,
+        version: number(mem, VERSION) as u32,
+        signature_algorithm: number(mem, SIGNATURE_ALGORITHM) as u32,
+        key_algorithm: number(mem, KEY_ALGORITHM) as u32,
+        verdict: number(mem, VERDICT) as u32,
+        display: number(mem, DISPLAY) as u32,
     }
 }
 

@@ -60,26 +60,52 @@ static int same(const struct bytes *b, const uint8_t *at, size_t length)
 
 static uint8_t aaid[9], metadata[15], mixed[32], key_id[32], public_key[65], nonce[17], hash[32], challenge[20], certificate[33], signature[71];
 static const uint8_t zero = 0, name[] = {'A', 'n', 'n'};
-enum { VERSION = 0x0102, SIGNATURE_ALGORITHM = 0x0304, KEY_ALGORITHM = 0x0506 };
 
-static void lend(uint8_t *at, size_t length, int seed)
-{
-    for (size_t i = 0; i < length; i++)
-        at[i] = (uint8_t)(seed + (int)i);
-}
+static const struct {
+    uint8_t *at;
+    size_t length;
+    int seed;
+} stretches[] = {
+    {aaid, sizeof aaid, 0x10},
+    {metadata, sizeof metadata, 0x20},
+    {mixed, sizeof mixed, 0x30},
+    {key_id, sizeof key_id, 0x60},
+    {public_key, sizeof public_key, 0x80},
+    {nonce, sizeof nonce, 0x03},
+    {hash, sizeof hash, 0xC0},
+    {challenge, sizeof challenge, 0xE0},
+    {certificate, sizeof certificate, 0x55},
+    {signature, sizeof signature, 0x77},
+};
+enum { STRETCHES = sizeof stretches / sizeof *stretches };
 
 static void lend_all(void)
 {
-    lend(aaid, sizeof aaid, 0x10);
-    lend(metadata, sizeof metadata, 0x20);
-    lend(mixed, sizeof mixed, 0x30);
-    lend(key_id, sizeof key_id, 0x60);
-    lend(public_key, sizeof public_key, 0x80);
-    lend(nonce, sizeof nonce, 0x03);
-    lend(hash, sizeof hash, 0xC0);
-    lend(challenge, sizeof challenge, 0xE0);
-    lend(certificate, sizeof certificate, 0x55);
-    lend(signature, sizeof signature, 0x77);
+    for (size_t i = 0; i < STRETCHES; i++)
+        for (size_t k = 0; k < stretches[i].length; k++)
+            stretches[i].at[k] = (uint8_t)(stretches[i].seed + (int)k);
+}
+
+static int stretches_are_as_lent(void)
+{
+    for (size_t i = 0; i < STRETCHES; i++)
+        for (size_t k = 0; k < stretches[i].length; k++)
+            if (stretches[i].at[k] != (uint8_t)(stretches[i].seed + (int)k))
+                return 0;
+    return 1;
+}
+
+/* The lent numbers, in the order in which uaf_command has them. */
+enum { VERSION, SIGNATURE_ALGORITHM, KEY_ALGORITHM, VERDICT, DISPLAY, NUMBERS };
+
+struct numbers {
+    uint32_t at[NUMBERS];
+};
+
+static struct numbers usual(uint32_t verdict, uint32_t display)
+{
+    struct numbers n = {{0x0102, 0x0304, 0x0506, verdict, display}};
+    return n;
 }
 
 /* ---- a call of uaf_command */
@@ -114,13 +140,20 @@ static int all_untouched(void)
         && table_length == 79;
 }
 
-static uint32_t call(const struct bytes *command, uint8_t verdict, uint8_t display, const struct bytes *table)
+static uint32_t call_with(const struct bytes *command, const struct numbers *n, const struct bytes *table)
 {
     fill_outputs();
     return uaf_command(
-        command->at, command->length, aaid, sizeof aaid, VERSION, SIGNATURE_ALGORITHM, KEY_ALGORITHM, metadata, sizeof metadata, verdict,
-        display, mixed, sizeof mixed, key_id, sizeof key_id, public_key, sizeof public_key, nonce, sizeof nonce, hash, sizeof hash, table->at,
-        table->length, response, sizeof response, table_out, sizeof table_out, &answer, &response_length, &table_length);
+        command->at, command->length, aaid, sizeof aaid, n->at[VERSION], n->at[SIGNATURE_ALGORITHM], n->at[KEY_ALGORITHM], metadata,
+        sizeof metadata, n->at[VERDICT], n->at[DISPLAY], mixed, sizeof mixed, key_id, sizeof key_id, public_key, sizeof public_key, nonce,
+        sizeof nonce, hash, sizeof hash, table->at, table->length, response, sizeof response, table_out, sizeof table_out, &answer,
+        &response_length, &table_length);
+}
+
+static uint32_t call(const struct bytes *command, uint32_t verdict, uint32_t display, const struct bytes *table)
+{
+    struct numbers n = usual(verdict, display);
+    return call_with(command, &n, table);
 }
 
 /* What was written, and nothing beyond it. */
@@ -146,7 +179,7 @@ static void status_only(struct bytes *expected, unsigned tag, unsigned status)
 }
 
 /* A call that answers with a status alone and leaves the table as it is. */
-static int says(const struct bytes *command, uint8_t verdict, uint8_t display, const struct bytes *table, unsigned tag, unsigned status)
+static int says(const struct bytes *command, uint32_t verdict, uint32_t display, const struct bytes *table, unsigned tag, unsigned status)
 {
     struct bytes expected = {{0}, 0};
     status_only(&expected, tag, status);
@@ -222,21 +255,21 @@ static void get_info(void)
     fill_outputs();
     expect(
         uaf_command(
-            command.at, command.length, aaid, sizeof aaid, VERSION, SIGNATURE_ALGORITHM, KEY_ALGORITHM, metadata, sizeof metadata, 255, 255,
+            command.at, command.length, aaid, sizeof aaid, 1, 2, 3, metadata, sizeof metadata, 255, 255,
             NULL, 0, NULL, 0, NULL, 0, NULL, 0, NULL, 0, NULL, 0, response, sizeof response, table_out, sizeof table_out, &answer,
             &response_length, &table_length) == 0,
         "GetInfo with NULL for what is empty is refused");
     expect(wrote(UAF_RESPONSE, &expected, &none), "GetInfo with NULL for what is empty");
 }
 
-static void krd(struct bytes *draft)
+static void krd(struct bytes *draft, const struct numbers *n)
 {
     struct bytes inner = {{0}, 0}, info = {{0}, 0};
     static const uint8_t counters[8] = {0};
-    number(&info, VERSION, 2);
+    number(&info, n->at[VERSION], 2);
     number(&info, 0x01, 1);
-    number(&info, SIGNATURE_ALGORITHM, 2);
-    number(&info, KEY_ALGORITHM, 2);
+    number(&info, n->at[SIGNATURE_ALGORITHM], 2);
+    number(&info, n->at[KEY_ALGORITHM], 2);
     tlv(&inner, 0x2E0B, aaid, sizeof aaid);
     holding(&inner, 0x2E0E, &info);
     tlv(&inner, 0x2E0A, challenge, sizeof challenge);
@@ -250,17 +283,18 @@ static void krd(struct bytes *draft)
 static void registers(void)
 {
     struct bytes children = {{0}, 0}, command = {{0}, 0}, none = {{0}, 0}, draft = {{0}, 0}, table = {{0}, 0};
+    const struct numbers n = usual(UAF_VERIFIED, UAF_SHOWN_CONFIRMED);
     children_of(&children, 1, NULL);
     command_of(&command, 0x3402, &children);
-    krd(&draft);
+    krd(&draft, &n);
     stored_record(&table, 0);
     expect(call(&command, UAF_VERIFIED, UAF_SHOWN_CONFIRMED, &none) == 0, "Register is refused");
     expect(wrote(UAF_DRAFT, &draft, &table), "Register: profile, challenge, KeyID, public key or mixed token");
-    static const uint8_t verdicts[] = {UAF_DENIED, UAF_NOT_ENROLLED, UAF_CANCELLED, UAF_NO_REPLY, UAF_LOCKED_OUT};
+    static const uint32_t verdicts[] = {UAF_DENIED, UAF_NOT_ENROLLED, UAF_CANCELLED, UAF_NO_REPLY, UAF_LOCKED_OUT};
     static const unsigned statuses[] = {
         UAF_STATUS_ACCESS_DENIED, UAF_STATUS_USER_NOT_ENROLLED, UAF_STATUS_USER_CANCELLED, UAF_STATUS_USER_NOT_RESPONSIVE,
         UAF_STATUS_USER_LOCKOUT};
-    for (size_t i = 0; i < sizeof verdicts; i++)
+    for (size_t i = 0; i < sizeof verdicts / sizeof *verdicts; i++)
         expect(says(&command, verdicts[i], UAF_SHOWN_CONFIRMED, &none, 0x3602, statuses[i]), "Register: the verdict");
     expect(says(&command, UAF_VERIFIED, UAF_SHOWN_CONFIRMED, &table, 0x3602, UAF_STATUS_ERR_UNKNOWN), "Register: the table");
     stored_records(&table, UAF_MOST_OWN);
@@ -271,15 +305,12 @@ static void registers(void)
     expect(says(&command, UAF_VERIFIED, UAF_SHOWN_CONFIRMED, &none, 0x3602, UAF_STATUS_PARAMS_INVALID), "Register: cut short");
 }
 
-static void signs(void)
+static void signed_data(struct bytes *draft, const struct numbers *n, unsigned count)
 {
-    struct bytes children = {{0}, 0}, command = {{0}, 0}, table = {{0}, 0}, left = {{0}, 0}, info = {{0}, 0}, inner = {{0}, 0};
-    struct bytes draft = {{0}, 0};
-    children_of(&children, 0, "7.40 to 3");
-    command_of(&command, 0x3403, &children);
-    number(&info, VERSION, 2);
+    struct bytes inner = {{0}, 0}, info = {{0}, 0};
+    number(&info, n->at[VERSION], 2);
     number(&info, 0x02, 1);
-    number(&info, SIGNATURE_ALGORITHM, 2);
+    number(&info, n->at[SIGNATURE_ALGORITHM], 2);
     tlv(&inner, 0x2E0B, aaid, sizeof aaid);
     holding(&inner, 0x2E0E, &info);
     tlv(&inner, 0x2E0F, nonce, sizeof nonce);
@@ -288,16 +319,26 @@ static void signs(void)
     tlv(&inner, 0x2E09, key_id, sizeof key_id);
     number(&inner, 0x2E0D, 2);
     number(&inner, 4, 2);
-    number(&inner, 0x01020305, 4);
-    holding(&draft, 0x3E04, &inner);
+    number(&inner, count, 4);
+    draft->length = 0;
+    holding(draft, 0x3E04, &inner);
+}
+
+static void signs(void)
+{
+    struct bytes children = {{0}, 0}, command = {{0}, 0}, table = {{0}, 0}, left = {{0}, 0}, draft = {{0}, 0};
+    const struct numbers n = usual(UAF_VERIFIED, UAF_SHOWN_CONFIRMED);
+    children_of(&children, 0, "7.40 to 3");
+    command_of(&command, 0x3403, &children);
+    signed_data(&draft, &n, 0x01020305);
     stored_record(&table, 0x01020304);
     stored_record(&left, 0x01020305);
     expect(call(&command, UAF_VERIFIED, UAF_SHOWN_CONFIRMED, &table) == 0, "Sign is refused");
     expect(wrote(UAF_DRAFT, &draft, &left), "Sign: nonce, hash, KeyID or count");
-    static const uint8_t results[] = {UAF_SHOWN_CANCELLED, UAF_SHOWN_NOT_RENDERED, UAF_SHOWN_NO_REPLY};
+    static const uint32_t results[] = {UAF_SHOWN_CANCELLED, UAF_SHOWN_NOT_RENDERED, UAF_SHOWN_NO_REPLY};
     static const unsigned statuses[] = {
         UAF_STATUS_USER_CANCELLED, UAF_STATUS_CANNOT_RENDER_TRANSACTION_CONTENT, UAF_STATUS_USER_NOT_RESPONSIVE};
-    for (size_t i = 0; i < sizeof results; i++)
+    for (size_t i = 0; i < sizeof results / sizeof *results; i++)
         expect(says(&command, UAF_VERIFIED, results[i], &table, 0x3603, statuses[i]), "Sign: the display");
 }
 
@@ -331,7 +372,7 @@ static void refusals(void)
         fill_outputs();
         expect(
             uaf_command(
-                command.at, command.length, aaid, sizeof aaid, VERSION, SIGNATURE_ALGORITHM, KEY_ALGORITHM, metadata, sizeof metadata, 0, 0,
+                command.at, command.length, aaid, sizeof aaid, 1, 2, 3, metadata, sizeof metadata, 0, 0,
                 mixed, sizeof mixed, key_id, sizeof key_id, public_key, sizeof public_key, nonce, sizeof nonce, hash, sizeof hash, NULL, 0,
                 response, shorter ? UAF_LEAST_RESPONSE - 1 : UAF_LEAST_RESPONSE, table_out, shorter ? UAF_LEAST_TABLE : UAF_LEAST_TABLE - 1,
                 &answer, &response_length, &table_length) == UAF_REFUSED_OUTPUT,
@@ -343,11 +384,81 @@ static void refusals(void)
     fill_outputs();
     expect(
         uaf_command(
-            command.at, command.length, aaid, sizeof aaid - 1, VERSION, SIGNATURE_ALGORITHM, KEY_ALGORITHM, metadata, sizeof metadata, 0, 0,
+            command.at, command.length, aaid, sizeof aaid - 1, 1, 2, 3, metadata, sizeof metadata, 0, 0,
             NULL, 0, NULL, 0, NULL, 0, NULL, 0, NULL, 0, NULL, 0, response, sizeof response, table_out, sizeof table_out, &answer,
             &response_length, &table_length) == UAF_REFUSED_LENT
             && all_untouched(),
         "a short AAID");
+}
+
+/* ---- numbers whose low 8 or 16 bits are a good number */
+
+/* A right command with this tag; a Sign has content, and a Deregister is about the record of stored_record. */
+static void some_command(struct bytes *command, unsigned tag)
+{
+    static const uint8_t access_token[] = {0xAA};
+    struct bytes children = {{0}, 0};
+    if (tag == 0x3402 || tag == 0x3403) {
+        children_of(&children, tag == 0x3402, "7.40 to 3");
+    } else if (tag != 0x3401) {
+        tlv(&children, 0x280D, &zero, 1);
+    }
+    if (tag == 0x3404) {
+        tlv(&children, 0x2E09, key_id, sizeof key_id);
+        tlv(&children, 0x2805, access_token, 1);
+    }
+    command_of(command, tag, &children);
+}
+
+/* What such a command answers if it is not refused: a draft has the profile's numbers, the rest none of them. */
+static int answered(unsigned tag, const struct numbers *n, const struct bytes *table)
+{
+    struct bytes expected = {{0}, 0}, left = {{0}, 0};
+    if (tag == 0x3402) {
+        krd(&expected, n);
+        stored_record(&left, 0);
+        return wrote(UAF_DRAFT, &expected, &left);
+    }
+    if (tag == 0x3403) {
+        signed_data(&expected, n, 9);
+        stored_record(&left, 9);
+        return wrote(UAF_DRAFT, &expected, &left);
+    }
+    if (tag == 0x3401)
+        return answer == UAF_RESPONSE && response_length == 94 && same(table, table_out, table_length);
+    status_only(&expected, tag + 0x200, tag == 0x3404 ? UAF_STATUS_OK : UAF_STATUS_CMD_NOT_SUPPORTED);
+    return wrote(UAF_RESPONSE, &expected, tag == 0x3404 ? &left : table);
+}
+
+/* A call with one number changed: refused, and then all that was lent is as it was, or answered. */
+static void number_lent(unsigned tag, size_t which, uint32_t value, int is_refused)
+{
+    struct bytes command = {{0}, 0}, table = {{0}, 0};
+    struct numbers n = usual(UAF_VERIFIED, UAF_SHOWN_CONFIRMED);
+    n.at[which] = value;
+    some_command(&command, tag);
+    if (tag != 0x3402)
+        stored_record(&table, 8);
+    const struct bytes command_lent = command, table_lent = table;
+    uint32_t refusal = call_with(&command, &n, &table);
+    expect(same(&command_lent, command.at, command.length) && same(&table_lent, table.at, table.length), "command or table changed");
+    expect(stretches_are_as_lent(), "a lent stretch changed");
+    if (is_refused)
+        expect(refusal == UAF_REFUSED_LENT && all_untouched(), "a number out of range");
+    else
+        expect(refusal == 0 && answered(tag, &n, &table), "a number in range, or one that is not looked at");
+}
+
+static void numbers_lent(void)
+{
+    static const unsigned tags[] = {0x3401, 0x3402, 0x3403, 0x3404, 0x3406};
+    static const uint32_t values[] = {256, 65536}, greatest[NUMBERS] = {65535, 65535, 65535, 5, 3};
+    /* by whom it is looked at, of GetInfo, Register, Sign, Deregister and Open settings */
+    static const int used[NUMBERS][5] = {{1, 1, 1, 0, 0}, {1, 1, 1, 0, 0}, {1, 1, 1, 0, 0}, {0, 1, 1, 0, 0}, {0, 0, 1, 0, 0}};
+    for (size_t which = 0; which < NUMBERS; which++)
+        for (size_t i = 0; i < 2; i++)
+            for (size_t k = 0; k < 5; k++)
+                number_lent(tags[k], which, values[i], used[which][k] && values[i] > greatest[which]);
 }
 
 /* ---- completion and the reader */
@@ -370,7 +481,8 @@ static void registration(struct bytes *expected, const struct bytes *draft)
 static void completes(void)
 {
     struct bytes draft = {{0}, 0}, expected = {{0}, 0};
-    krd(&draft);
+    const struct numbers n = usual(UAF_VERIFIED, UAF_SHOWN_CONFIRMED);
+    krd(&draft, &n);
     registration(&expected, &draft);
     fill_outputs();
     expect(
@@ -414,7 +526,8 @@ static void reads(void)
     static const size_t expected_tags[] = {0x2808, 0x2E0B, 0x2E0E, 0x2E0A, 0x2E09, 0x2E0D, 0x2E0C, 0x2E06, 0x2E05};
     const size_t expected_lengths[] = {
         2, sizeof aaid, 7, sizeof challenge, sizeof key_id, 8, sizeof public_key, sizeof signature, sizeof certificate};
-    krd(&draft);
+    const struct numbers n = usual(UAF_VERIFIED, UAF_SHOWN_CONFIRMED);
+    krd(&draft, &n);
     registration(&whole, &draft);
     expect(uaf_signed_part(whole.at, whole.length, &place, &length) == 0, "a response is not read");
     expect(place == 18 && length == draft.length && memcmp(whole.at + place, draft.at, length) == 0, "the signed part");
@@ -448,6 +561,7 @@ int main(void)
     signs();
     deregisters_and_settings();
     refusals();
+    numbers_lent();
     completes();
     reads();
     printf("header: %d checks, %s\n", checks,

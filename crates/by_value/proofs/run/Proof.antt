@@ -2,7 +2,7 @@
 use native.Mathlib.Nat.{sub-zero}
 use native.Mathlib.Omega.{arith}
 use borrow.Author.Needs.{needs}
-use Rattle.by_value.proofs.RunLaws.{called, gives-refused, left-fits, gives-left}
+use Rattle.by_value.proofs.RunLaws.{called, ends-refused, left-fits, ends-left}
 use Rattle.by_value.proofs.run.Statement.{statement}
 use Rattle.by_value.proofs.run.Tie as tie
 
@@ -17,13 +17,13 @@ returns : tie.Need-returns
 returns c =
     let k = c .before .before .before .before .before .before in
     let f = k .before .before .before .before .before .before in
-    gives-refused (called _ (f .put-form .ensures) (rw sub-zero at (k .call .ensures))) _ (c .before .outcome .given .1)
+    ends-refused (called _ (f .put-form .ensures) (rw sub-zero at (k .call .ensures))) _ (c .before .outcome .given .1)
 
 returns-2 : tie.Need-returns-2
 returns-2 c =
     let k = c .before .before .before .before .before .before .before .before .before .before in
     let f = k .before .before .before .before .before .before in
-    gives-left (called _ (f .put-form .ensures) (rw sub-zero at (k .call .ensures)))
+    ends-left (called _ (f .put-form .ensures) (rw sub-zero at (k .call .ensures)))
     (c .before .before .before .before .before .outcome2 .given .1) _ (rw sub-zero at (c .before .load .ensures))
 
 pub run-spec : {M : Type 1} → statement M

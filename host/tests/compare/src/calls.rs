@@ -11,12 +11,12 @@ pub const LEAST_TABLE: usize = 6912;
 #[derive(Clone, PartialEq, Eq)]
 pub struct LentBytes {
     pub aaid: Vec<u8>,
-    pub version: u16,
-    pub signature_algorithm: u16,
-    pub key_algorithm: u16,
+    pub version: u32,
+    pub signature_algorithm: u32,
+    pub key_algorithm: u32,
     pub metadata: Vec<u8>,
-    pub verdict: u8,
-    pub display: u8,
+    pub verdict: u32,
+    pub display: u32,
     pub mixed: Vec<u8>,
     pub key_id: Vec<u8>,
     pub public_key: Vec<u8>,

@@ -24,6 +24,11 @@ const BY_RECORDS: u8 = 2;
 /// A call's flag, and a draft's or response's: put lengths right.
 const MEND_COMMAND: u8 = 1;
 const MEND: u8 = 2;
+/// The first of a call's five flags for numbers that are changed in 32 bits.
+const CHANGED: u8 = 2;
+/// The byte that fills lent stretches, and by which the profile's numbers are made, as in command.c.
+const FILL: u8 = 0x40;
+const VERSION: u32 = FILL as u32 * 257;
 
 /// A KeyID or mixed token by its number, as `numbered` in command.c.
 fn numbered(number: u8) -> [u8; 32] {
@@ -117,9 +122,32 @@ fn size_code(size: usize) -> u8 {
         .unwrap_or(0)
 }
 
+/// The flags of the numbers that are out of range, and the bits by which each differs from what the
+/// input makes it without a flag. The profile's numbers are otherwise those of the fill.
+fn changes(lent: &LentBytes) -> (u8, Vec<u8>) {
+    let numbers = [
+        (lent.verdict, lent.verdict & 0xFF, 0xFF),
+        (lent.display, lent.display & 0xFF, 0xFF),
+        (lent.version, VERSION, 0xFFFF),
+        (lent.signature_algorithm, VERSION ^ 0x1234, 0xFFFF),
+        (lent.key_algorithm, VERSION ^ 0xFFFF, 0xFFFF),
+    ];
+    let (mut flags, mut bits) = (0, vec![]);
+    for (i, (number, unchanged, greatest)) in numbers.into_iter().enumerate() {
+        if number > greatest {
+            flags |= CHANGED << i;
+            bits.extend((number ^ unchanged).to_le_bytes());
+        }
+    }
+    (flags, bits)
+}
+
 /// A call's part of the input: flags, numbers, sizes, the command.
 fn call_bytes(holder: u8, key: u8, lent: &LentBytes, command: &[u8]) -> Vec<u8> {
-    let mut bytes = vec![MEND_COMMAND, lent.verdict, lent.display, holder, key, 0x40];
+    let (flags, bits) = changes(lent);
+    let mut bytes = vec![MEND_COMMAND | flags, lent.verdict as u8, lent.display as u8];
+    bytes.extend([holder, key, FILL]);
+    bytes.extend(bits);
     let stretches = [
         &lent.aaid,
         &lent.metadata,

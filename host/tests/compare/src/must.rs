@@ -20,7 +20,7 @@ fn answers(kind: Kind, read: bool) -> Vec<Outcome> {
 }
 
 /// The faults of which each must have been the only one of some call.
-pub const FAULTS: [&str; 79] = [
+pub const FAULTS: [&str; 86] = [
     "output: response too short",
     "output: table too short",
     "table: over 32 records",
@@ -41,8 +41,15 @@ pub const FAULTS: [&str; 79] = [
     "outer: no command's tag",
     "lent: AAID's length",
     "lent: metadata's length",
+    "lent: version over 65,535",
+    "lent: signature algorithm over 65,535",
+    "lent: key algorithm over 65,535",
     "lent: verdict over 5",
+    "lent: verdict over 5, its low 8 bits good",
+    "lent: verdict over 5, its low 16 bits good",
     "lent: display result over 3",
+    "lent: display result over 3, its low 8 bits good",
+    "lent: display result over 3, its low 16 bits good",
     "lent: mixed token's length",
     "lent: KeyID's length",
     "lent: public key's length",

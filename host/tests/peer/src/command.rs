@@ -1,7 +1,7 @@
 //! The five commands on a stored table.
 
 use crate::draft::{write_krd, write_signed_data};
-use crate::lent::{Call, Registering, Signing};
+use crate::lent::{Call, Registering, RightProfile, Signing};
 use crate::numbers::{
     tag, Attestation, Bytes32, Kind, Status, API, CONTENT_TYPE, INDEX, LEAST_RESPONSE, LEAST_TABLE,
     MOST_OWN, MOST_RECORDS, SCHEME,
@@ -9,7 +9,7 @@ use crate::numbers::{
 use crate::params::Params;
 use crate::table::{Record, Table};
 use crate::tlv::Writer;
-use crate::{Answer, Lent, Profile, Refusal, Served};
+use crate::{Answer, Lent, Refusal, Served};
 
 /// Runs a command on a stored table. `response` gets the response or the draft, `table_out` the
 /// stored form of the table left.
@@ -87,7 +87,7 @@ pub(crate) fn write_response(
     });
 }
 
-fn get_info(profile: &Profile, table: &Table, out: &mut Outputs) -> Written {
+fn get_info(profile: &RightProfile, table: &Table, out: &mut Outputs) -> Written {
     let info = |out: &mut Writer| {
         out.tlv(tag::API_VERSION, &API);
         out.wrap(tag::AUTHENTICATOR_INFO, |out| {

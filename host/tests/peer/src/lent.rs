@@ -7,9 +7,19 @@ use crate::{Lent, Profile};
 /// What the fingerprint or the display said: go on, or the status to answer with.
 pub(crate) type Said = Result<(), Status>;
 
+/// A profile whose lengths and numbers are right: "AAID of 9 bytes, authenticator version,
+/// signature and public-key algorithm (16 bits each), metadata of 15 bytes".
+pub(crate) struct RightProfile<'a> {
+    pub aaid: &'a [u8],
+    pub version: u16,
+    pub signature_algorithm: u16,
+    pub key_algorithm: u16,
+    pub metadata: &'a [u8],
+}
+
 /// A command with the lent results it uses.
 pub(crate) enum Call<'a> {
-    GetInfo(Profile<'a>),
+    GetInfo(RightProfile<'a>),
     Register(Registering<'a>),
     Sign(Signing<'a>),
     Deregister(&'a Bytes32),
@@ -18,7 +28,7 @@ pub(crate) enum Call<'a> {
 
 /// "Register profile, verdict, mixed token, KeyID, public key".
 pub(crate) struct Registering<'a> {
-    pub profile: Profile<'a>,
+    pub profile: RightProfile<'a>,
     pub verdict: Said,
     pub mixed: &'a Bytes32,
     pub key_id: &'a Bytes32,
@@ -27,7 +37,7 @@ pub(crate) struct Registering<'a> {
 
 /// "Sign profile, verdict, display result, mixed token, nonce, transaction hash".
 pub(crate) struct Signing<'a> {
-    pub profile: Profile<'a>,
+    pub profile: RightProfile<'a>,
     pub verdict: Said,
     pub display: Said,
     pub mixed: &'a Bytes32,
@@ -72,14 +82,26 @@ impl<'a> Call<'a> {
     }
 }
 
-fn profile<'a>(lent: &Lent<'a>) -> Option<Profile<'a>> {
-    Some(lent.profile).filter(|profile| {
-        length::AAID.allows(profile.aaid.len()) && length::METADATA.allows(profile.metadata.len())
+/// The profile is used as a whole: a number that this command doesn't write is looked at too.
+fn profile<'a>(lent: &Lent<'a>) -> Option<RightProfile<'a>> {
+    let Profile {
+        aaid,
+        version,
+        signature_algorithm,
+        key_algorithm,
+        metadata,
+    } = lent.profile;
+    Some(RightProfile {
+        aaid: Some(aaid).filter(|aaid| length::AAID.allows(aaid.len()))?,
+        version: version.try_into().ok()?,
+        signature_algorithm: signature_algorithm.try_into().ok()?,
+        key_algorithm: key_algorithm.try_into().ok()?,
+        metadata: Some(metadata).filter(|metadata| length::METADATA.allows(metadata.len()))?,
     })
 }
 
 /// "0 verified, 1 denied, 2 not enrolled, 3 cancelled, 4 no reply, 5 locked out".
-fn verdict(number: u8) -> Option<Said> {
+fn verdict(number: u32) -> Option<Said> {
     Some(match number {
         0 => Ok(()),
         1 => Err(Status::AccessDenied),
@@ -92,7 +114,7 @@ fn verdict(number: u8) -> Option<Said> {
 }
 
 /// "0 confirmed, 1 cancelled, 2 cannot render, 3 no reply".
-fn display(number: u8) -> Option<Said> {
+fn display(number: u32) -> Option<Said> {
     Some(match number {
         0 => Ok(()),
         1 => Err(Status::UserCancelled),

@@ -19,23 +19,28 @@ mod params;
 mod reader;
 mod table;
 mod tlv;
+mod value;
 
 pub use command::command;
 pub use complete::complete;
 pub use reader::{read_fields, signed_part, Fields, MOST_FIELDS};
 pub use tlv::Field;
+pub use value::{command_by_value, load, store, RecordValue, TableValue};
 
 /// "The profile is lent": who the token is.
+///
+/// Lent numbers have 32 bits, here and in [`Lent`], so that nothing is cut off before it is judged:
+/// one out of range is refused where the command uses it.
 #[derive(Clone, Copy, Debug)]
 pub struct Profile<'a> {
     /// AAID of 9 bytes.
     pub aaid: &'a [u8],
-    /// The authenticator's version.
-    pub version: u16,
-    /// The signature algorithm.
-    pub signature_algorithm: u16,
-    /// The public-key algorithm.
-    pub key_algorithm: u16,
+    /// The authenticator's version, at most 65,535.
+    pub version: u32,
+    /// The signature algorithm, at most 65,535.
+    pub signature_algorithm: u32,
+    /// The public-key algorithm, at most 65,535.
+    pub key_algorithm: u32,
     /// Metadata of 15 bytes.
     pub metadata: &'a [u8],
 }
@@ -46,9 +51,9 @@ pub struct Lent<'a> {
     /// Who the token is.
     pub profile: Profile<'a>,
     /// The fingerprint's verdict, 0 to 5.
-    pub verdict: u8,
+    pub verdict: u32,
     /// The display's result, 0 to 3.
-    pub display: u8,
+    pub display: u32,
     /// The mixed token of 32 bytes: the hash of access token followed by AppID.
     pub mixed: &'a [u8],
     /// A new KeyID of 32 bytes.
@@ -67,7 +72,7 @@ pub struct Lent<'a> {
 pub enum Refusal {
     /// An output is too short.
     Output = 1,
-    /// The stored table breaks a rule.
+    /// The table, or its stored form, breaks a rule.
     Table = 2,
     /// Fewer than 4 bytes, or none of the five commands.
     Command = 3,

@@ -46,7 +46,7 @@ pub(crate) mod length {
     pub(crate) const METADATA: Length = Length::Exactly(15);
     pub(crate) const KEY_ID: Length = Length::Exactly(32);
     pub(crate) const MIXED: Length = Length::Exactly(32);
-    pub(crate) const USERNAME: Length = Length::Between(1, 128);
+    pub(crate) const USERNAME: Length = Length::Between(1, super::MOST_NAME);
     pub(crate) const CHALLENGE: Length = Length::Between(1, 32);
     pub(crate) const NONCE: Length = Length::Between(8, 32);
     pub(crate) const PUBLIC_KEY: Length = Length::Between(1, 512);
@@ -65,6 +65,8 @@ pub(crate) const LEAST_TABLE: usize = 6912;
 pub(crate) const MOST_COMMAND: usize = 8192;
 /// "The table has at most 32 records".
 pub(crate) const MOST_RECORDS: usize = 32;
+/// "a username of 1 to 128 bytes".
+pub(crate) const MOST_NAME: usize = 128;
 /// "at most 8 with one mixed token"; also the most key handles in a Sign.
 pub(crate) const MOST_OWN: usize = 8;
 

@@ -109,12 +109,7 @@ impl<'a> Table<'a> {
         out: &mut Writer,
     ) {
         self.write(out);
-        out.wrap(tag::USERNAME_AND_KEYHANDLE, |out| {
-            out.tlv(tag::KEYID, key_id);
-            out.tlv(tag::KEYHANDLE_ACCESS_TOKEN, mixed);
-            out.tlv(tag::USERNAME, username);
-            out.tlv(tag::COUNTERS, &0_u32.to_le_bytes());
-        });
+        write_record(key_id, mixed, username, 0, out);
     }
 
     /// Writes the table with another counter in one record, where it comes last.
@@ -130,6 +125,22 @@ impl<'a> Table<'a> {
             out.put(record.stored);
         }
     }
+}
+
+/// Writes the stored form of one record.
+pub(crate) fn write_record(
+    key_id: &Bytes32,
+    mixed: &Bytes32,
+    username: &[u8],
+    counter: u32,
+    out: &mut Writer,
+) {
+    out.wrap(tag::USERNAME_AND_KEYHANDLE, |out| {
+        out.tlv(tag::KEYID, key_id);
+        out.tlv(tag::KEYHANDLE_ACCESS_TOKEN, mixed);
+        out.tlv(tag::USERNAME, username);
+        out.tlv(tag::COUNTERS, &counter.to_le_bytes());
+    });
 }
 
 /// Up to 8 KeyIDs, as a Sign gives or answers them.

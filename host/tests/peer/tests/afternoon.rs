@@ -69,8 +69,8 @@ fn any_list() {
         let lent = Lent {
             mixed: &mixed[..32 - dice.below(20) / 19],
             key_id: &key_id,
-            verdict: (dice.below(20) as u8).saturating_sub(13),
-            display: (dice.below(20) as u8).saturating_sub(15),
+            verdict: (dice.below(20) as u32).saturating_sub(13),
+            display: (dice.below(20) as u32).saturating_sub(15),
             ..lent()
         };
         match run(&bytes, &lent, &table) {

@@ -401,7 +401,7 @@ fn display_results() {
     }
 }
 
-const VERDICTS: [(u8, u8); 5] = [(1, 0x02), (2, 0x03), (3, 0x05), (4, 0x0E), (5, 0x10)];
+const VERDICTS: [(u32, u8); 5] = [(1, 0x02), (2, 0x03), (3, 0x05), (4, 0x0E), (5, 0x10)];
 
 #[test]
 fn verdicts() {

@@ -102,10 +102,10 @@ fn lent_results() {
     for length in [0, 14, 16] {
         wrong.push((profile(AAID, &long[..length]), three));
     }
-    for verdict in [6, 7, 255] {
+    for verdict in [6, 7, 255, 256, u32::MAX] {
         wrong.push((Lent { verdict, ..good }, two));
     }
-    for display in [4, 5, 255] {
+    for display in [4, 5, 255, 256, u32::MAX] {
         wrong.push((Lent { display, ..good }, &[SIGN]));
     }
     for length in [0, 31, 33] {
@@ -174,6 +174,79 @@ fn lent_results() {
             assert_eq!(refused(&with(command, &[]), &denied, &[]), expected);
         }
     }
+}
+
+/// A lent number: its name, its last good value, the commands that use it, and how it is lent.
+type Number = (
+    &'static str,
+    u32,
+    &'static [u16],
+    fn(&mut Lent<'static>, u32),
+);
+
+const NUMBERS: [Number; 5] = [
+    ("version", 65_535, &[GETINFO, REGISTER, SIGN], |lent, n| {
+        lent.profile.version = n;
+    }),
+    (
+        "signature algorithm",
+        65_535,
+        &[GETINFO, REGISTER, SIGN],
+        |lent, n| lent.profile.signature_algorithm = n,
+    ),
+    (
+        "key algorithm",
+        65_535,
+        &[GETINFO, REGISTER, SIGN],
+        |lent, n| {
+            lent.profile.key_algorithm = n;
+        },
+    ),
+    ("verdict", 5, &[REGISTER, SIGN], |lent, n| lent.verdict = n),
+    ("display", 3, &[SIGN], |lent, n| lent.display = n),
+];
+
+/// Each lent number for each command, used or not, about its last good value and where 8 or 16 bits
+/// would cut it off to a good one.
+#[test]
+fn lent_numbers() {
+    let table = record(1, OWN, b"Ann", 0);
+    for (name, last, users, put) in NUMBERS {
+        for value in [
+            last,
+            last + 1,
+            256,
+            65_535,
+            65_536,
+            65_536 + last,
+            1 << 31,
+            u32::MAX,
+        ] {
+            let mut lent = lent();
+            put(&mut lent, value);
+            for command in [GETINFO, REGISTER, SIGN, DEREGISTER, OPEN_SETTINGS] {
+                let wrong = value > last && users.contains(&command);
+                let expected = if wrong { Some(Refusal::Lent) } else { None };
+                for bytes in [with(command, &[]), tlv(command, &[0])] {
+                    let got = refused(&bytes, &lent, &table);
+                    assert_eq!(got, expected, "{} {} {:04X}", name, value, command);
+                }
+            }
+        }
+    }
+}
+
+/// The profile's last numbers are written as they are: nothing of them is lost.
+#[test]
+fn last_numbers() {
+    let mut lent = lent();
+    lent.profile.version = 65_535;
+    lent.profile.signature_algorithm = 65_534;
+    lent.profile.key_algorithm = 65_533;
+    let (draft, _) = gives_draft(&with(REGISTER, &[]), &lent, &[]);
+    assert_eq!(draft[17..28], hex("0E 2E 07 00 FF FF 01 FE FF FD FF"));
+    let (draft, _) = gives_draft(&with(SIGN, &[]), &lent, &record(1, OWN, b"Ann", 0));
+    assert_eq!(draft[17..26], hex("0E 2E 05 00 FF FF 01 FE FF"));
 }
 
 #[test]

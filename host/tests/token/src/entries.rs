@@ -9,13 +9,13 @@ extern "C" {
         command_size: usize,
         aaid: *const u8,
         aaid_size: usize,
-        version: u16,
-        signature_algorithm: u16,
-        key_algorithm: u16,
+        version: u32,
+        signature_algorithm: u32,
+        key_algorithm: u32,
         metadata: *const u8,
         metadata_size: usize,
-        verdict: u8,
-        display: u8,
+        verdict: u32,
+        display: u32,
         mixed: *const u8,
         mixed_size: usize,
         key_id: *const u8,
@@ -55,7 +55,7 @@ extern "C" {
         response: *const u8,
         response_size: usize,
         place: *mut usize,
-        length: *mut usize,
+        part_length: *mut usize,
     ) -> u32;
 
     pub fn uaf_read_fields(

@@ -37,6 +37,10 @@ supported c =
     let u = c .before .before .before .before in
     rw (type-is _ _ (unbroken u) (type-placed u) (n .result) (n .ensures)) at (c .is-supported .ensures)
 
+returns-2 : tie.Need-returns-2
+unfolding judge registerChecks
+returns-2 c = simp (unbroken (c .before .before .before), ne-eqb _ _ (c .before .if2 .taken), c .verdict-status .ensures)
+
 -- the first three checks pass
 abbrev start-3 : tie.Else3 → tie.Start
 start-3 c = start (c .before .before .before .before .before)
@@ -60,10 +64,6 @@ few c = lt-leb _ _ (rw (c .before .own-count .ensures) at (c .if5 .left))
 returns : tie.Need-returns
 unfolding judge registerChecks
 returns c = rw (sym (c .before .before .before .before .before .before .pre .0 .broken-is) ∙ c .if1 .taken)
-
-returns-2 : tie.Need-returns-2
-unfolding judge registerChecks
-returns-2 c = simp (unbroken (c .before .before .before), ne-eqb _ _ (c .before .if2 .taken), c .verdict-status .ensures)
 
 get16-requires : tie.Need-get16-requires
 get16-requires c κs =

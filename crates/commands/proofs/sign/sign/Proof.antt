@@ -20,6 +20,12 @@ use Rattle.commands.proofs.sign.sign.Tie as tie
 abbrev start : tie.After-enum-told → tie.Start
 start c = c .before .before .before .before .before .before .before
 
+returns-3 : tie.Need-returns-3
+returns-3 c =
+    let j = c .before .before .before .before in
+    λ k. rw (c .only .ensures)
+    (sign-fails _ (j .before .before .before .before .before .pre .0) (j .judge-sign .ensures) (c .before .before .judged .given .1))
+
 placed : (c : tie.After-enum-told) → ParamsPlaced (now (start c .args .command)) (start c .args .params)
 placed c = sign-placed (start c .args .numbers) (start c .pre .0) (c .before .before .judge-sign .ensures) (c .enum-told .given .1)
 
@@ -64,12 +70,6 @@ returns-2 c =
     (ap not (placed-empty _ _ _ (placed (w .before .before) .transaction-content) ∙ sym (c .before .is-empty .ensures)))
     (sym (c .before .before .count-of .ensures ∙ ap (λ (r : Record). r .count) (record-at (start-2 i .pre .1) _ (first i) .is)))
     (c .sign-one .ensures)
-
-returns-3 : tie.Need-returns-3
-returns-3 c =
-    let j = c .before .before .before .before in
-    λ k. rw (c .only .ensures)
-    (sign-fails _ (j .before .before .before .before .before .pre .0) (j .judge-sign .ensures) (c .before .before .judged .given .1))
 
 returns-4 : tie.Need-returns-4
 returns-4 c = λ k. several-chosen (found (c .before .before)) (c .before .if1 .left) (c .if2 .left)

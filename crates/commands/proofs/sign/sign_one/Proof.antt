@@ -9,6 +9,9 @@ use Rattle.commands.proofs.SignLaws.{one-fails, one-passes}
 use Rattle.commands.proofs.sign.sign_one.Statement.{statement}
 use Rattle.commands.proofs.sign.sign_one.Tie as tie
 
+returns-2 : tie.Need-returns-2
+returns-2 c = rw (c .plain .ensures) (one-passes _ _ _ (c .before .before .before .judge-one .ensures) (c .before .enum-told .given .1))
+
 -- a count that is not the last can rise
 add-next : tie.Need-add-next
 add-next c =
@@ -20,9 +23,6 @@ add-next c =
 returns : tie.Need-returns
 returns c =
     rw (c .only .ensures) (one-fails _ _ _ (c .before .before .before .before .judge-one .ensures) (c .before .before .judged .given .1))
-
-returns-2 : tie.Need-returns-2
-returns-2 c = rw (c .plain .ensures) (one-passes _ _ _ (c .before .before .before .judge-one .ensures) (c .before .enum-told .given .1))
 
 pub sign-one-spec : {M : Type 1} → statement M
 sign-one-spec =

@@ -1,5 +1,5 @@
 -- The records at the places of the index, or none.
-use mathlib.Core.Path.{_≡_, refl}
+use mathlib.Core.Path.{_≡_}
 use native.Mathlib.Nat.{sub-zero}
 use native.Mathlib.Omega.{arith}
 use lib.ListN.{length, length-map}
@@ -12,7 +12,7 @@ use Rattle.key_table.proofs.forms.load.Tie as tie
 returns : tie.Need-returns
 returns c =
     let f = c .before in
-    loaded-none (f .before .before .index-of .ensures) (not-true _ (f .if1 .taken)) refl (c .no-table .ensures)
+    loaded-none (f .before .before .index-of .ensures) (not-true _ (f .if1 .taken)) (c .no-table .ensures)
 
 part-values-at-end : tie.Need-part-values-at-end
 part-values-at-end c =

@@ -24,10 +24,10 @@ loop-again : tie.Need-loop-again Inv-loop μ-loop
 loop-again c =
     let l = c .before .before .before .loop in
     let x = c .before .before .before .before .before .before .before .before .pre in
-    (search needs, l .inv .1, values-more x (omega arith) (l .inv .2) _ (c .value-at .ensures .0) (c .value-at .ensures .1))
+    (search needs, l .inv .1, values-more x (omega arith) (l .inv .2) (c .value-at .ensures))
 
 returns : tie.Need-returns Inv-loop μ-loop
-returns c = values-all (c .before .before .before .before .before .before .pre) (c .before .loop .inv .2) (omega arith)
+returns c = values-all (c .before .before .before .before .before .before .pre) (c .before .loop .inv .2) (omega arith) (omega arith)
 
 pub values-at-spec : {M : Type 1} → statement M
 values-at-spec =

@@ -1,25 +1,21 @@
 -- Each command's lent results are tested as the definition says.
 use borrow.Author.Needs.{needs}
-use mathlib.Core.Path.{_≡_, sym, _∙_}
-use mathlib.Core.Bool.{_&&_}
-use native.Mathlib.Omega.{arith}
+use mathlib.Core.Path.{_≡_, refl, sym, _∙_}
+use mathlib.Core.List.{[]}
 use denote.Ref.{now}
 use borrow.Author.Tests.{not-true, not-false}
-use Rattle.model.specs.Tlv.{fits, aaid, metadata}
 use Rattle.model.specs.Commands.{profileOk, lentOk}
 use Rattle.params.specs.Lent.{lentOf}
-use Rattle.params.proofs.LentLaws.{profile-is}
 use Rattle.params.proofs.lent.lent_ok.Statement.{statement}
 use Rattle.params.proofs.lent.lent_ok.Tie as tie
 
--- what the profile's test gives
+-- the profile's test looks at nothing else
 profile : (s : tie.Start)
     → let a = s .args in
     profileOk (lentOf (now (a .aaid)) (a .numbers) (now (a .metadata)) (now (a .mixed)) (now (a .key-id)) (now (a .public-key)) (now (a .nonce)) (now (a .hash)))
-    ≡ (fits aaid (now (a .aaid)) && fits metadata (now (a .metadata)))
-profile s =
-    let g = s .good .1 .1 .0 .1 .1 in
-    profile-is _ (omega (arith, g .0 .1)) (omega (arith, g .1 .0 .1)) (omega (arith, g .1 .1 .0 .1))
+    ≡ profileOk (lentOf (now (a .aaid)) (a .numbers) (now (a .metadata)) [] [] [] [] [])
+unfolding profileOk
+profile s = refl
 
 enum-told : tie.Need-enum-told
 enum-told c = search needs

@@ -15,6 +15,14 @@ returns c =
     let s = c .before .before .before .before .before .before in
     wrote-gone _ _ (recordAt (now (s .args .table)) (s .args .place)) (c .before .is-going .ensures) (c .if1 .taken) (omega (arith, s .pre))
 
+returns-2 : tie.Need-returns-2
+returns-2 c =
+    let w = c .before .before in
+    let g = w .before .before .before .before in
+    let s = g .before .before .before .before .before in
+    wrote-staying _ _ (recordAt (now (s .args .table)) (s .args .place)) (g .is-going .ensures) (w .before .before .before .if1 .left)
+    (w .before .bytes-of .ensures) (s .pre .1) (w .put-bytes .ensures)
+
 put-bytes-requires : tie.Need-put-bytes-requires
 put-bytes-requires c κs =
     let s = c .before .before .before .before .before .before .before .before in
@@ -23,14 +31,6 @@ put-bytes-requires c κs =
     let l : length (now (c .bytes-of .result)) ≡ n =
     ap length (c .bytes-of .ensures) ∙ length-take-le n (drop (s .args .place) b) (simp length-drop (omega (arith, s .pre))) in
     omega (arith, s .pre)
-
-returns-2 : tie.Need-returns-2
-returns-2 c =
-    let w = c .before .before in
-    let g = w .before .before .before .before in
-    let s = g .before .before .before .before .before in
-    wrote-staying _ _ (recordAt (now (s .args .table)) (s .args .place)) (g .is-going .ensures) (w .before .before .before .if1 .left)
-    (w .before .bytes-of .ensures) (s .pre .1) (w .put-bytes .ensures)
 
 pub put-staying-spec : {M : Type 1} → statement M
 put-staying-spec =

@@ -1,0 +1,4 @@
+-- The separation of holders over the entries' own promises.
+pub mod SeparationOfCalls
+pub mod EveryTrace
+pub mod Conditions

@@ -1,0 +1,2 @@
+-- Calls of the entries one after another.
+pub mod Calls

@@ -1,0 +1,186 @@
+//! What the program's calls are lent, each with the letter that sets it in a script.
+
+use crate::bytes::{key, ANN};
+use uaf_peer::{Lent, Profile, TableValue};
+
+/// An argument as the script has it. Every number has 32 bits there, little-endian, so that none is
+/// cut off before the token judges it.
+pub type Argument = (char, Vec<u8>);
+
+fn number(letter: char, number: u32) -> Argument {
+    (letter, number.to_le_bytes().to_vec())
+}
+
+fn bytes(letter: char, bytes: &[u8]) -> Argument {
+    (letter, bytes.to_vec())
+}
+
+/// A command and what it is lent.
+#[derive(Clone)]
+pub struct Call {
+    pub command: Vec<u8>,
+    pub aaid: Vec<u8>,
+    pub version: u32,
+    pub signature_algorithm: u32,
+    pub key_algorithm: u32,
+    pub metadata: Vec<u8>,
+    pub verdict: u32,
+    pub display: u32,
+    pub mixed: Vec<u8>,
+    pub key_id: Vec<u8>,
+    pub public_key: Vec<u8>,
+    pub nonce: Vec<u8>,
+    pub hash: Vec<u8>,
+    pub response_size: u32,
+    pub table_out_size: u32,
+    /// How a table by value is made to break a rule, or 0.
+    pub spoilt: u32,
+    /// Whether the table left is printed whole, beside its length and sums.
+    pub dump: bool,
+}
+
+/// A command with the usual arguments.
+pub fn of(command: Vec<u8>) -> Call {
+    Call {
+        command,
+        aaid: b"4A4F#0001".to_vec(),
+        version: 0x0102,
+        signature_algorithm: 0x0304,
+        key_algorithm: 0x0506,
+        metadata: (0x30..0x3F).collect(),
+        verdict: 0,
+        display: 0,
+        mixed: ANN.to_vec(),
+        key_id: vec![0; 32],
+        public_key: (1..66).collect(),
+        nonce: (0x80..0x90).collect(),
+        hash: (0xC0..0xE0).collect(),
+        response_size: 4096,
+        table_out_size: 6912,
+        spoilt: 0,
+        dump: false,
+    }
+}
+
+/// The same call with another argument.
+impl Call {
+    /// Lent the KeyID with this number.
+    pub fn key(self, number: u8) -> Call {
+        let key_id = key(number);
+        Call { key_id, ..self }
+    }
+
+    /// Lent this holder's mixed token.
+    pub fn by(self, mixed: [u8; 32]) -> Call {
+        let mixed = mixed.to_vec();
+        Call { mixed, ..self }
+    }
+
+    pub fn verdict(self, verdict: u32) -> Call {
+        Call { verdict, ..self }
+    }
+
+    pub fn display(self, display: u32) -> Call {
+        Call { display, ..self }
+    }
+
+    /// With the table left printed whole.
+    pub fn dumped(self) -> Call {
+        Call { dump: true, ..self }
+    }
+}
+
+impl Call {
+    /// In the order in which a script sets them.
+    pub fn arguments(&self, table: &[u8]) -> Vec<Argument> {
+        vec![
+            bytes('c', &self.command),
+            bytes('a', &self.aaid),
+            number('v', self.version),
+            number('s', self.signature_algorithm),
+            number('g', self.key_algorithm),
+            bytes('m', &self.metadata),
+            number('u', self.verdict),
+            number('d', self.display),
+            bytes('x', &self.mixed),
+            bytes('k', &self.key_id),
+            bytes('p', &self.public_key),
+            bytes('n', &self.nonce),
+            bytes('h', &self.hash),
+            bytes('t', table),
+            number('o', self.response_size),
+            number('w', self.table_out_size),
+            number('b', self.spoilt),
+        ]
+    }
+
+    pub fn lent(&self) -> Lent<'_> {
+        Lent {
+            profile: Profile {
+                aaid: &self.aaid,
+                version: self.version,
+                signature_algorithm: self.signature_algorithm,
+                key_algorithm: self.key_algorithm,
+                metadata: &self.metadata,
+            },
+            verdict: self.verdict,
+            display: self.display,
+            mixed: &self.mixed,
+            key_id: &self.key_id,
+            public_key: &self.public_key,
+            nonce: &self.nonce,
+            hash: &self.hash,
+        }
+    }
+}
+
+/// The ways to break a rule that no table which loads can break, by their numbers from 1 on.
+pub const SPOILT: [&str; 5] = [
+    "said to be 33",
+    "an empty name",
+    "a name of 129",
+    "a KeyID twice",
+    "one mixed token",
+];
+
+/// Breaks the rule with this number, if any, in a table of at least nine records.
+pub fn spoil(table: &mut TableValue, spoilt: u32) {
+    let first = table.records[0];
+    match spoilt {
+        0 => {}
+        1 => table.count = 33,
+        2 => table.records[0].name_length = 0,
+        3 => table.records[0].name_length = 129,
+        4 => table.records[1].key_id = first.key_id,
+        _ => {
+            for record in &mut table.records[..table.count] {
+                record.mixed = first.mixed;
+            }
+        }
+    }
+}
+
+/// What a completion is lent.
+#[derive(Clone)]
+pub struct Completion {
+    pub kind: u32,
+    pub draft: Vec<u8>,
+    pub attestation: u32,
+    pub signature: Vec<u8>,
+    pub certificate: Vec<u8>,
+    pub response_size: u32,
+}
+
+impl Completion {
+    /// In the order in which a script sets them.
+    pub fn arguments(&self) -> Vec<Argument> {
+        vec![
+            number('j', self.kind),
+            bytes('q', &self.draft),
+            number('y', self.attestation),
+            bytes('z', &self.signature),
+            bytes('e', &self.certificate),
+            number('o', self.response_size),
+        ]
+    }
+}

@@ -1,0 +1,246 @@
+//! A script in the making: the lines that the program is given, and those that it must print, which
+//! are what the peer answers to the same calls.
+
+use crate::bytes::hex;
+use crate::call::{spoil, Argument, Call, Completion};
+use crate::output::{sum, Output};
+use std::collections::BTreeMap;
+use uaf_peer::{Answer, Fields, Refusal, MOST_FIELDS};
+
+/// What a number that a call writes holds before it.
+const UNSET: usize = 77;
+
+/// Names say what a call shows.
+#[derive(Default)]
+pub struct Trace {
+    pub script: Vec<String>,
+    pub expected: Vec<String>,
+    /// The arguments as they were set last.
+    set: BTreeMap<char, Vec<u8>>,
+    /// The stored form of the next call's table.
+    table: Vec<u8>,
+    by_value_every: usize,
+    ending: &'static str,
+    runs: usize,
+}
+
+/// What is printed of an answer, and what was written.
+fn answered(answer: Answer, response: &Output) -> (String, Vec<u8>) {
+    let (what, length) = match answer {
+        Answer::Response(length) => ("response", length),
+        Answer::Draft(length) => ("draft", length),
+    };
+    let said = format!("{} {}", what, response.written(length, true));
+    (said, response.0[..length].to_vec())
+}
+
+impl Trace {
+    /// From here on each so-many-th command is run on a table by value, the others on its stored
+    /// form: 0 is none, 1 is all. The ending is put behind each name.
+    pub fn change_form(&mut self, by_value_every: usize, ending: &'static str) {
+        self.by_value_every = by_value_every;
+        self.ending = ending;
+        self.runs = 0;
+    }
+
+    pub fn say(&mut self, text: &str) {
+        self.script.push(format!("# {text}"));
+    }
+
+    /// Hands the next call this table.
+    pub fn give(&mut self, records: &[Vec<u8>]) {
+        self.table = records.concat();
+    }
+
+    /// Sets the arguments that are not so already.
+    fn set(&mut self, arguments: Vec<Argument>) {
+        for (letter, value) in arguments {
+            if self.set.get(&letter) != Some(&value) {
+                self.script.push(format!("{} {}", letter, hex(&value)));
+                self.set.insert(letter, value);
+            }
+        }
+    }
+
+    fn expect(&mut self, name: &str, said: &str) {
+        self.expected.push(format!("{name}: {said}"));
+    }
+
+    /// The program keeps the table left as the next one.
+    fn keep(&mut self, table: &[u8]) {
+        self.table = table.to_vec();
+        self.set.insert('t', table.to_vec());
+    }
+
+    /// Runs a command; the table left is the next call's. Gives what was written, nothing after a
+    /// refusal.
+    pub fn run(&mut self, name: &str, call: Call) -> Vec<u8> {
+        self.set(call.arguments(&self.table));
+        self.runs += 1;
+        let by_value = self.by_value_every > 0 && self.runs % self.by_value_every == 0;
+        let name = format!("{}{}", name, self.ending);
+        let mark = match (by_value, call.dump) {
+            (false, false) => '!',
+            (false, true) => '?',
+            (true, false) => '&',
+            (true, true) => '@',
+        };
+        self.script.push(format!("{mark} {name}"));
+        if by_value {
+            self.run_by_value(&name, &call)
+        } else {
+            self.run_stored(&name, &call)
+        }
+    }
+
+    fn run_stored(&mut self, name: &str, call: &Call) -> Vec<u8> {
+        let mut response = Output::new(call.response_size);
+        let mut table = Output::new(call.table_out_size);
+        let lent = call.lent();
+        let outputs = (&mut response.0, &mut table.0);
+        match uaf_peer::command(&call.command, &lent, &self.table, outputs.0, outputs.1) {
+            Err(refusal) => {
+                let sums = format!("{} {}", response.whole_sum(), table.whole_sum());
+                let numbers = format!("{UNSET} {UNSET} {UNSET}");
+                self.expect(
+                    name,
+                    &format!("refusal {} {numbers} {sums}", refusal as u32),
+                );
+                vec![]
+            }
+            Ok(served) => {
+                let (said, answer) = answered(served.answer, &response);
+                let left = table.written(served.table_length, call.dump);
+                self.expect(name, &format!("{said} table {left}"));
+                self.keep(&table.0[..served.table_length]);
+                answer
+            }
+        }
+    }
+
+    /// The table is loaded, and the one that comes back is stored, also after a refusal.
+    fn run_by_value(&mut self, name: &str, call: &Call) -> Vec<u8> {
+        let mut table = match uaf_peer::load(&self.table) {
+            Ok(table) => table,
+            Err(refusal) => {
+                self.expect(name, &format!("load {}", refusal as u32));
+                return vec![];
+            }
+        };
+        spoil(&mut table, call.spoilt);
+        let mut response = Output::new(call.response_size);
+        let served =
+            uaf_peer::command_by_value(&call.command, &call.lent(), &mut table, &mut response.0);
+        let (said, answer) = match served {
+            Ok(answer) => answered(answer, &response),
+            Err(refusal) => {
+                let said = format!("refusal {} {}", refusal as u32, response.whole_sum());
+                (said, vec![])
+            }
+        };
+        let mut form = Output::new(call.table_out_size);
+        let stored = uaf_peer::store(&table, &mut form.0);
+        let kept = match stored {
+            Ok(length) => format!("table {}", form.written(length, call.dump)),
+            Err(refusal) => format!("store {} {}", refusal as u32, form.whole_sum()),
+        };
+        self.expect(name, &format!("by value, {said} {kept}"));
+        if let (Ok(_), Ok(length)) = (served, stored) {
+            self.keep(&form.0[..length]);
+        }
+        answer
+    }
+
+    /// Completes a draft; the response is what is read next. Gives it, nothing after a refusal.
+    pub fn complete(&mut self, name: &str, completion: &Completion) -> Vec<u8> {
+        self.set(completion.arguments());
+        self.script.push(format!("= {name}"));
+        let mut response = Output::new(completion.response_size);
+        match completed(completion, &mut response) {
+            Err(refusal) => {
+                let kept = response.whole_sum();
+                self.expect(name, &format!("refusal {} {UNSET} {kept}", refusal as u32));
+                vec![]
+            }
+            Ok(length) => {
+                self.expect(
+                    name,
+                    &format!("completed {}", response.written(length, true)),
+                );
+                response.0.truncate(length);
+                self.set.insert('r', response.0.clone());
+                response.0
+            }
+        }
+    }
+
+    /// Reads the response that lies there. Gives whether it is one.
+    pub fn read_this(&mut self, name: &str, response: &[u8]) -> bool {
+        self.script.push(format!("< {name}"));
+        let (said, is_read) = match uaf_peer::read_fields(response) {
+            Ok(fields) => (read(response, &fields), true),
+            Err(refusal) => (not_read(refusal), false),
+        };
+        self.expect(name, &said);
+        is_read
+    }
+
+    /// Reads a response. Gives whether it is one.
+    pub fn read(&mut self, name: &str, response: &[u8]) -> bool {
+        self.set(vec![('r', response.to_vec())]);
+        self.read_this(name, response)
+    }
+
+    /// Reads a response with one byte changed, and changes it back.
+    pub fn read_changed(&mut self, name: &str, response: &[u8], place: usize, byte: u8) -> bool {
+        self.set(vec![('r', response.to_vec())]);
+        let mut changed = response.to_vec();
+        changed[place] = byte;
+        self.change_byte(place, byte);
+        let is_read = self.read_this(name, &changed);
+        self.change_byte(place, response[place]);
+        is_read
+    }
+
+    fn change_byte(&mut self, place: usize, byte: u8) {
+        let place = hex(&(place as u16).to_le_bytes());
+        self.script.push(format!("^ {place}{byte:02X}"));
+    }
+}
+
+/// A completion by the peer.
+pub fn completed(completion: &Completion, response: &mut Output) -> Result<usize, Refusal> {
+    uaf_peer::complete(
+        completion.kind,
+        &completion.draft,
+        completion.attestation,
+        &completion.signature,
+        &completion.certificate,
+        &mut response.0,
+    )
+}
+
+/// What is printed of a response that is read: the signed structure's place and length, by the C
+/// entry; its length and sum, as a stretch of the response; and all 17 rows of the fields.
+fn read(response: &[u8], fields: &Fields) -> String {
+    let part = uaf_peer::signed_part(response).expect("what has fields has a part");
+    let (place, length) = (part.start, part.len());
+    let mut said = format!(
+        "signed 0 {place} {length} part 0 {length} {}",
+        sum(&response[part])
+    );
+    said += &format!(" list 0 {} {} {}", fields.tag, fields.status, fields.count);
+    for field in fields.fields {
+        said += &format!("; {} {} {}", field.tag, field.place, field.length);
+    }
+    said
+}
+
+/// The numbers are as they were, and of the arrays' rows the sum.
+fn not_read(refusal: Refusal) -> String {
+    let (number, rows) = (refusal as u32, MOST_FIELDS * UNSET);
+    format!(
+        "signed {number} {UNSET} {UNSET} part {number} 0 1 \
+         list {number} {UNSET} {UNSET} {UNSET} {rows} {rows} {rows}"
+    )
+}
