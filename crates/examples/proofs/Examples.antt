@@ -2,10 +2,10 @@
 -- records and the longest answers are in `model`'s Computing.
 -- Assumes nothing.
 use mathlib.Core.Path.{_≡_, refl}
-use mathlib.Core.List.{List, [], _∷_, _++_, map}
+use mathlib.Core.List.{List, [], _∷_, map}
 use mathlib.Core.Option.{some}
 use Prim.Native.Nat.{ℕ, _+_}
-use lib.ListN.{length, replicate}
+use lib.ListN.{length}
 use Rattle.model.specs.Records.{Table}
 use Rattle.model.specs.Commands.{Result, refused, gave, Answer, response, draft, outcome}
 use Rattle.model.specs.Traces.{Form, handed, answered}

@@ -1,14 +1,14 @@
 -- Every trace of the combinations that an entry has is that of some calls: what the entries promise can be met wherever they are called, and the
 -- table can be turned from the one form into the other between any two commands.
 -- Assumes nothing.
-use mathlib.Core.Path.{_≡_, refl, sym, ap, _∙_}
-use mathlib.Core.Bool.{true, false}
+use mathlib.Core.Path.{_≡_, refl}
+use mathlib.Core.Bool.{true}
 use mathlib.Core.List.{List, [], _∷_, _++_}
 use mathlib.Core.Option.{Option, none, some}
 use Prim.Native.Nat.{ℕ}
 use lib.ListN.{length, replicate, length-replicate}
 use Rattle.model.specs.Lists.{all}
-use Rattle.model.specs.Records.{Table, maxStored, tableOk, encode, decode}
+use Rattle.model.specs.Records.{Table, maxStored, encode, decode}
 use Rattle.model.specs.Commands.{Call, value, stored, tableOf, Result, refused, gave, judge, outcome, over, outputs}
 use Rattle.model.specs.Traces.{Form, itself, inStoredForm, Step, final}
 use Rattle.model.proofs.Basics.{and-left, and-right, clash}

@@ -1,7 +1,7 @@
 -- The separation of holders over the entries' own promises: lists of their calls, in any mixture, are traces.
 -- Assumes nothing.
 use mathlib.Core.Path.{_≡_, refl, sym, ap, _∙_}
-use mathlib.Core.Bool.{Bool, true, false, cond}
+use mathlib.Core.Bool.{true, false}
 use mathlib.Core.List.{List, [], _∷_, _++_, map, map-append}
 use mathlib.Core.Option.{none, some}
 use Prim.Native.Nat.{ℕ, _<_}
@@ -10,10 +10,9 @@ use borrow.Author.Tests.{ne-eqb}
 use lib.ListN.{length, drop}
 use lib.Dec.{eqb, ltb}
 use lib.Seq.{take-at}
-use Rattle.model.specs.Records.{Table, maxStored, tableOk, own, encode, decode}
+use Rattle.model.specs.Records.{Table, maxStored, tableOk, encode, decode}
 use Rattle.model.specs.Commands.{Call, Given, value, stored, tableOf, Result, refused, gave, Answer, Effect, judge, refusals, outcome, bytesOf, outputs}
-use Rattle.model.specs.Complete.{outputOf}
-use Rattle.model.specs.Traces.{Form, itself, inStoredForm, Step, handed, result, leftBy, next, final, isOf, answered, Seen, observe}
+use Rattle.model.specs.Traces.{Step, handed, result, leftBy, next, final, isOf, answered, Seen, observe}
 use Rattle.model.proofs.Basics.{split, impossible}
 use Rattle.model.proofs.Kept.{guarded, given-ok, kept}
 use Rattle.model.proofs.StoredForm.{decode-encode}
@@ -32,10 +31,10 @@ use Rattle.by_value.specs.Runs as runs
 use Rattle.by_value.specs.declared.Answered.{Answered}
 use Rattle.by_value.specs.declared.Answered.the-variants as answers
 use Rattle.by_value.proofs.RunLaws.{left-view}
-use Rattle.token.specs.Returned.{Returned, answerNumber, returned}
+use Rattle.token.specs.Returned.{answerNumber, returned}
 use Rattle.token.proofs.EntryLaws.{number-is}
 use Rattle.token.proofs.RoundTrip.{one-of}
-use Rattle.separation.specs.Calls.{Commanding, Running, Storing, Made, command, run, load, store, commandCall, runCall, Held, byValue, asStored, givenBy, Promised, afterStoring, heldAfter, Calls, heldLast, stepsOf, steps, Wrote, Told, commandSays, runSays, recordsIn, toldOf, toldTo, SeparationOfCalls}
+use Rattle.separation.specs.Calls.{Commanding, Running, Storing, Made, command, run, load, store, commandCall, runCall, Held, byValue, asStored, givenBy, Promised, afterStoring, heldAfter, Calls, heldLast, stepsOf, steps, Wrote, Told, commandSays, runSays, told, toldOf, toldTo, SeparationOfCalls}
 
 -- ---- what a command says and leaves is what the trace says of it
 
@@ -178,7 +177,7 @@ pub record Are (h : List ℕ) (told : List Told) (k : Held) (ss : List Step) (t 
 
 -- a command on a table that obeys the rules, in either form
 one-is : (h : List ℕ) (s : Step) (t : Table) (g : Given) (says : Result Wrote) (k : Held) → tableOf g ≡ some t
-    → Is says k t (outcome (s .call) g) → Are h (cond (isOf h s) (record { says = says; records = recordsIn h k } ∷ []) []) k (s ∷ []) t
+    → Is says k t (outcome (s .call) g) → Are h (told h s says k) k (s ∷ []) t
 unfolding observe final next result
 one-is h s t g says k is i =
     let e : outcome (s .call) (handed (s .form) t) ≡ outcome (s .call) g =

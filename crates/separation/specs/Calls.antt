@@ -62,6 +62,13 @@ commandCall m = params.call (m .command) (m .lent) (length (m .before .response)
 abbrev pub runCall : Running → Call
 runCall m = params.call (m .command) (m .lent) (length (m .before)) none
 
+-- and its step of a trace
+abbrev pub commandStep : Commanding → Step
+commandStep m = record { call = commandCall m; form = inStoredForm }
+
+abbrev pub runStep : Running → Step
+runStep m = record { call = runCall m; form = itself }
+
 -- ---- what is held between two calls
 
 -- the table, "itself or in its stored form"
@@ -106,8 +113,8 @@ heldLast k (m ∷ ms) = heldLast (heldAfter k m) ms
 
 -- the trace that they are; `load` and `store` are no commands
 abbrev pub stepsOf : Made → List Step
-stepsOf (command m) = record { call = commandCall m; form = inStoredForm } ∷ []
-stepsOf (run m) = record { call = runCall m; form = itself } ∷ []
+stepsOf (command m) = commandStep m ∷ []
+stepsOf (run m) = runStep m ∷ []
 stepsOf (load l) = []
 stepsOf (store m) = []
 
@@ -141,16 +148,13 @@ runSays s (answered.Gave d n) = gave (record { answer = draftNumber d; size = n;
 abbrev pub recordsIn : List ℕ → Held → Option model.Table
 recordsIn h k = Option·map (own h) (tableOf (givenBy k))
 
--- h's own commands are told to h, and nothing else is
+-- h's own commands are told to h, and nothing else is; k: what is held after it
+abbrev pub told : List ℕ → Step → Result Wrote → Held → List Told
+told h s says k = cond (isOf h s) (record { says = says; records = recordsIn h k } ∷ []) []
+
 unfoldable pub toldOf : List ℕ → Held → Made → List Told
-toldOf h k (command m) =
-    cond (isOf h (record { call = commandCall m; form = inStoredForm }))
-    (record { says = commandSays (m .after); records = recordsIn h (heldAfter k (command m)) } ∷ [])
-    []
-toldOf h k (run m) =
-    cond (isOf h (record { call = runCall m; form = itself }))
-    (record { says = runSays (m .after) (m .ran .answered); records = recordsIn h (heldAfter k (run m)) } ∷ [])
-    []
+toldOf h k (command m) = told h (commandStep m) (commandSays (m .after)) (heldAfter k (command m))
+toldOf h k (run m) = told h (runStep m) (runSays (m .after) (m .ran .answered)) (heldAfter k (run m))
 toldOf h k (load l) = []
 toldOf h k (store m) = []
 
