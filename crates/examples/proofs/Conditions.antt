@@ -121,12 +121,12 @@ short m k f = calling signCommand m k 4095 f
 abbrev noCommand : ℕ → ℕ → Form → Step
 noCommand m k f = step byte m k f
 
-abbrev refusing : List Step
+abbrev pub refusing : List Step
 refusing =
     step registerCommand 1 1 itself ∷ short 1 1 inStoredForm ∷ noCommand 1 1 itself ∷ step signCommand 1 1 inStoredForm ∷ []
 
 -- the table is full from the 31 others on; 9 finds no place, twice, and the holder signs
-abbrev filling : List Step
+abbrev pub filling : List Step
 filling =
     step signCommand 7 1 inStoredForm ∷ step registerCommand 1 1 itself
     ∷ (crowd 31 ++ (step registerCommand 9 99 itself ∷ short 1 1 inStoredForm ∷ noCommand 5 1 inStoredForm ∷ noCommand 1 1 itself

@@ -1,9 +1,9 @@
 -- A record by value as the model's, and a table by value as its list of records; and both back. Spare bytes do not count: those of a name past its
 -- length, and what stands past the last record.
 use mathlib.Core.Path.{_≡_}
-use Prim.Native.Nat.{ℕ}
+use Prim.Native.Nat.{ℕ, _≤_, _<_}
 use mathlib.Core.List.{List, [], map}
-use lib.ListN.{length}
+use lib.ListN.{length, getD, drop}
 use Rattle.model.specs.Records as model
 use Rattle.tlv.specs.Firsts.{firsts}
 use Rattle.stored_table.specs.Stored.{recordOf}
@@ -38,6 +38,12 @@ recordValue r = valueOf (r .keyId) (r .mixed) (r .name) (r .count)
 unfoldable pub tableValue : model.Table → Table
 tableValue t = record { records = firsts spareRecord 32 (map recordValue t); len = length t }
 
--- a table by value whose spare bytes are zero
-abbrev pub Tidy : Table → Type 0
-Tidy t = t ≡ tableValue (viewTable t)
+-- spare bytes are zero in a record
+abbrev pub TidyRecord : Record → Type 0
+TidyRecord r = r .name ≡ firsts 0 128 (firsts 0 (r .«name_len») (r .name))
+
+-- spare bytes are zero in a table, in each of its records and past the last
+pub record Tidy (t : Table) : Type 0 where
+  pub few : t .len ≤ 32
+  pub names : (i : ℕ) → i < t .len → TidyRecord (getD (t .records) i noValue)
+  pub rest : drop (t .len) (t .records) ≡ drop (t .len) (firsts spareRecord 32 [])

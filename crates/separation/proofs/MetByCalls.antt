@@ -12,7 +12,7 @@ use Rattle.model.specs.Commands.{Result, refused, gave}
 use Rattle.model.specs.Traces.{Step, observe, Comparable}
 use Rattle.model.proofs.Basics.{impossible}
 use Rattle.model.proofs.Computing.{computing}
-use Rattle.examples.proofs.Conditions.{id, quiet, busy, repeated, crowded, met, Needed, freshness-needed, room-needed}
+use Rattle.examples.proofs.Conditions.{id, quiet, busy, refusing, filling, repeated, crowded, met, met-full, Needed, freshness-needed, room-needed}
 use Rattle.key_table.specs.Views.{tableValue}
 use Rattle.key_table.proofs.TidyLaws.{view-of-value}
 use Rattle.separation.specs.Calls.{Made, Held, byValue, asStored, Calls, steps, Wrote, Told, toldTo, Empty, offered}
@@ -38,18 +38,24 @@ empty-by-value = found (tableValue []) [] (view-of-value [] (omega arith) refl) 
 abbrev pub CallsOf : Held → List Step → Type 0
 CallsOf k ss = (ms : List Made) × Calls k ms × (steps ms ≡ ss)
 
--- ---- met: the holder alone, and the holder among busy strangers
+-- ---- met: the holder alone, and among busy strangers; with refused calls, bytes that are no command and a full table
 
-pub record MetByCalls : Type 0 where
-  pub quietly : CallsOf noneStored quiet
-  pub busily : CallsOf noneByValue busy
-  pub conditions : Comparable (id 1) (steps (quietly .0)) (steps (busily .0))
+pub record MetByCalls (a b : List Step) : Type 0 where
+  pub first : CallsOf noneStored a
+  pub second : CallsOf noneByValue b
+  pub conditions : Comparable (id 1) (steps (first .0)) (steps (second .0))
 
-pub met-by-calls : MetByCalls
-met-by-calls =
-    let q = every-trace noneStored empty-stored quiet refl in
-    let b = every-trace noneByValue empty-by-value busy refl in
-    record { quietly = q; busily = b; conditions = rw (q .2, b .2) (met .conditions) }
+met-so : (a b : List Step) → all offered a ≡ true → all offered b ≡ true → Comparable (id 1) a b → MetByCalls a b
+met-so a b oa ob c =
+    let p = every-trace noneStored empty-stored a oa in
+    let q = every-trace noneByValue empty-by-value b ob in
+    record { first = p; second = q; conditions = rw (p .2, q .2) c }
+
+pub met-by-calls : MetByCalls quiet busy
+met-by-calls = met-so quiet busy refl refl (met .conditions)
+
+pub met-full-by-calls : MetByCalls refusing filling
+met-full-by-calls = met-so refusing filling refl refl (met-full .conditions)
 
 -- ---- needed: without freshness, or without room, the holder is told something else first
 
@@ -69,16 +75,19 @@ first-map f (x ∷ xs) = refl
 told-first : (k : Held) (ss : List Step) → Empty k → (c : CallsOf k ss) → first (toldTo (id 1) k (c .0)) ≡ Option·map seenAs (first (observe (id 1) ss []))
 told-first k ss e (ms, c, q) = rw (calls-are (id 1) k ms [] e c .seen, q) (first-map seenAs (observe (id 1) ss []))
 
-pub record NeededByCalls (ss : List Step) : Type 0 where
+-- all that `Needed` says of the trace, and calls that are it
+pub record NeededByCalls (ss : List Step) (fresh-is roomy-is : Bool) (status-is : ℕ) : Type 0 where
+  pub needed : Needed ss fresh-is roomy-is status-is
   pub quietly : CallsOf noneStored quiet
   pub so : CallsOf noneStored ss
   pub differ : toldTo (id 1) noneStored (quietly .0) ≡ toldTo (id 1) noneStored (so .0) → ⊥
 
-needed-by-calls : (ss : List Step) (f r : Bool) (n : ℕ) → all offered ss ≡ true → Needed ss f r n → NeededByCalls ss
+needed-by-calls : (ss : List Step) (f r : Bool) (n : ℕ) → all offered ss ≡ true → Needed ss f r n → NeededByCalls ss f r n
 needed-by-calls ss f r n o w =
     let q = every-trace noneStored empty-stored quiet refl in
     let b = every-trace noneStored empty-stored ss o in
     record {
+      needed = w;
       quietly = q;
       so = b;
       differ = λ e.
@@ -88,8 +97,8 @@ needed-by-calls ss f r n o w =
           impossible cc;
     }
 
-pub freshness-needed-by-calls : NeededByCalls repeated
+pub freshness-needed-by-calls : NeededByCalls repeated false true 0x01
 freshness-needed-by-calls = needed-by-calls repeated false true 0x01 refl freshness-needed
 
-pub room-needed-by-calls : NeededByCalls crowded
+pub room-needed-by-calls : NeededByCalls crowded true false 0x0F
 room-needed-by-calls = needed-by-calls crowded true false 0x0F refl room-needed

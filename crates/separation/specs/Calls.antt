@@ -186,7 +186,8 @@ offers inStoredForm o = lists.given o
 abbrev pub offered : Step → Bool
 offered s = offers (s .form) (s .call .tableOutput)
 
--- every trace of these combinations is that of some calls, so that the conditions are met wherever such a trace meets them
+-- every trace of these combinations is that of some calls that keep the entries' promises (of lists of any numbers, as the definitions' are: bytes where
+-- they are bytes), so that the conditions are met wherever such a trace meets them
 abbrev pub EveryTrace : Type 0
 EveryTrace =
     (k : Held) → Empty k → (ss : List Step) → lists.all offered ss ≡ true → (ms : List Made) × Calls k ms × (steps ms ≡ ss)

@@ -249,7 +249,7 @@ draft-reads-back c g x r₀ r b w p₀ p l₀ l er zr ar ex e z ep el =
 
 -- ---- the conditions of these laws
 
--- the number 0: after another all that was lent to the call, or to the completion, is as it was
+-- the number 0 is needed: after any other all that was lent to the call, or to the completion, is as it was
 pub command-refused : (o : Result Effect) (r₀ r : Returned) → r ≡ returned o r₀ → (r .code ≡ 0 → ⊥)
     → r ≡ gets (r .code) (r₀ .answer) (r₀ .responseLength) (r₀ .tableLength) (r₀ .response) (r₀ .table)
 unfolding returned
@@ -262,7 +262,7 @@ unfolding completedAs
 completion-refused (refused n) b w p z = rw p
 completion-refused (gave s) b w p z = absurd (z (ap (λ (x : ReturnedCompletion). x .code) p))
 
--- the call's 0: it is met where no refusal has a reason
+-- a call's 0 is met where no refusal has a reason
 pub command-gives : (c : Call) (g : Given) (r₀ r : Returned) → r ≡ returned (outcome c g) r₀ → leastOutput ≤ c .output
     → maxStored ≤ Option·getD (c .tableOutput) maxStored → (t : Table) → tableOf g ≡ some t → (k : Kind) → kindOf (c .command) ≡ some k
     → lentOk k (c .lent) ≡ true → r .code ≡ 0
@@ -270,14 +270,14 @@ unfolding returned
 command-gives c g r₀ r er h i t d k n o = rw (er, performs c g h i t d k n o)
 
 module _ (c : Call) (g : Given) (r₀ r : Returned) (er : r ≡ returned (outcome c g) r₀) (zr : r .code ≡ 0) where
-  -- the answer 0 or 1: there is no other
+  -- its answer is 0 or 1, and no other
   pub response-or-draft : (r .answer ≡ 0) ⊎ (r .answer ≡ 1)
   response-or-draft = let a = answered c g r₀ r er zr in rw (a .number) at (no-other (a .effect .answer))
 
   draft-kind : r .answer ≡ 1 → isDraft (completionKind (kind c)) (take (r .responseLength) (r .response)) ≡ true
   draft-kind ar = let a = answered c g r₀ r er zr in draft-taken c g (a .effect) _ (a .gives) (is-draft a ar)
 
-  -- the answer 0: the reader refuses a draft
+  -- the answer 0 is needed: the reader refuses a draft
   pub draft-not-read : (p₀ p : ReturnedPart) (l₀ l : ReturnedFields) → r .answer ≡ 1
       → p ≡ pointed (readResponse (take (r .responseLength) (r .response))) p₀
       → l ≡ returnedFields (readResponse (take (r .responseLength) (r .response))) l₀
@@ -286,16 +286,16 @@ module _ (c : Call) (g : Given) (r₀ r : Returned) (er : r ≡ returned (outcom
   draft-not-read p₀ p l₀ l ar ep el = rw (ep, el, draft-not-response _ _ (draft-kind ar)) (refl, refl)
 
   module _ (x : Completion) (ex : x .draft ≡ take (r .responseLength) (r .response)) (b w : ReturnedCompletion) (e : w ≡ completedAs (complete x) b) where
-    -- the answer 1: it is met, for no response is completed
-    pub completed-drafts : w .code ≡ 0 → r .answer ≡ 1
-    completed-drafts z =
+    -- the answer 1 is met wherever a completion gives 0: no response can be completed
+    pub completed-was-draft : w .code ≡ 0 → r .answer ≡ 1
+    completed-was-draft z =
         let a = answered c g r₀ r er zr in
         let d = rw ex at (draft-not-response (x .kind) (x .draft) (completion-passed x _ (gave-of x b w e z) .0)) in
         ⊎-elim
         (λ ar. let f = command-read-back c g (a .effect) _ (a .gives) (is-response a ar) .back .read in impossible (cc (d, f)))
         (λ ar. ar) response-or-draft
 
-    -- the completion's 0: it is met where the kind is the command's and all else lent to it is in order
+    -- a completion's 0 is met where the kind is the command's and all else lent to it is in order
     pub draft-completes : r .answer ≡ 1 → x .kind ≡ completionKind (kind c) → leastOutput ≤ x .output → completionOk x ≡ true → w .code ≡ 0
     unfolding completedAs
     draft-completes ar k h o = rw (e, completes x h (rw (k, ex) (draft-kind ar)) o)
