@@ -1,8 +1,8 @@
 -- Completions: what a draft is and how long it can be, what is asked of its seal, and what the function gives.
 -- Assumes nothing.
 use mathlib.Core.Path.{_≡_, refl, sym, ap, _∙_}
-use mathlib.Core.Bool.{Bool, true, false, not, cond, _&&_, _||_, or-false}
-use mathlib.Core.List.{List, [], _∷_}
+use mathlib.Core.Bool.{Bool, true, false, cond, _&&_, _||_, or-false}
+use mathlib.Core.List.{List, []}
 use Prim.Native.Nat.{ℕ, _+_, _≤_}
 use native.Mathlib.Omega.{arith}
 use lib.ListN.{length}
@@ -11,8 +11,8 @@ use borrow.Author.Tests.{ltb-false, eq-eqb, ne-eqb, eqb-true}
 use Rattle.model.specs.Lists.{empty}
 use Rattle.model.specs.Tlv.{le, fits, signature, certificate, full, surrogate}
 use Rattle.model.specs.Layouts.{end, reads}
-use Rattle.model.specs.Commands.{check, judge, Result, refused, gave, keyRegistrationData, signedData, leastOutput}
-use Rattle.model.specs.Complete.{Completion, draftsOf, isDraft, completionOk, completed, complete}
+use Rattle.model.specs.Commands.{judge, Result, refused, gave, keyRegistrationData, signedData, leastOutput}
+use Rattle.model.specs.Complete.{Completion, draftsOf, isDraft, completionOk, completed, completionChecks, complete}
 use Rattle.model.proofs.Basics.{split, clash, and-left, and-right}
 use Rattle.model.proofs.LayoutLaws.{most, fits-most}
 use Rattle.model.proofs.LayoutWritten.{any-found, each-member}
@@ -93,27 +93,26 @@ pub record Passes (x : Completion) : Type 0 where
   pub draft : isDraft (x .kind) (x .draft) ≡ true
   pub seal : completionOk x ≡ true
 
--- whether the output is short, the draft one that a command can write and what is lent beside it right; and the first refusal, or 0
-module _ (x : Completion) {short drafted sealed : Bool} {r : ℕ} (s : ltb (x .output) leastOutput ≡ short)
-    (d : isDraft (x .kind) (x .draft) ≡ drafted) (l : completionOk x ≡ sealed)
-    (e : r ≡ judge (check 1 short ∷ check 5 (not drafted) ∷ check 4 (not sealed) ∷ []) (λ n. n) 0) where
+-- by the first refusal, or 0
+module _ (x : Completion) {short draftOk lentOk : Bool} {r : ℕ} (s : ltb (x .output) leastOutput ≡ short)
+    (d : isDraft (x .kind) (x .draft) ≡ draftOk) (l : completionOk x ≡ lentOk) (e : r ≡ judge (completionChecks short draftOk lentOk) (λ n. n) 0) where
   pub refuses : (r ≡ 0 → ⊥) → complete x ≡ refused r
   unfolding complete judge
-  refuses h = rw (s, d, l) (go short drafted sealed e)
+  refuses h = rw (s, d, l) (go short draftOk lentOk e)
     where
-      go : (s d l : Bool) → r ≡ judge (check 1 s ∷ check 5 (not d) ∷ check 4 (not l) ∷ []) (λ n. n) 0
-          → judge (check 1 s ∷ check 5 (not d) ∷ check 4 (not l) ∷ []) refused (gave (completed x)) ≡ refused r
-      go true d l e = ap refused (sym e)
-      go false false l e = ap refused (sym e)
+      go : (a b c : Bool) → r ≡ judge (completionChecks a b c) (λ n. n) 0
+          → judge (completionChecks a b c) refused (gave (completed x)) ≡ refused r
+      go true b c e = ap refused (sym e)
+      go false false c e = ap refused (sym e)
       go false true false e = ap refused (sym e)
       go false true true e = absurd (h e)
 
   pub passes : r ≡ 0 → Passes x
   unfolding judge
-  passes z = go short drafted sealed s d l e
+  passes z = go short draftOk lentOk s d l e
     where
       go : (a b c : Bool) → ltb (x .output) leastOutput ≡ a → isDraft (x .kind) (x .draft) ≡ b → completionOk x ≡ c
-          → r ≡ judge (check 1 a ∷ check 5 (not b) ∷ check 4 (not c) ∷ []) (λ n. n) 0 → Passes x
+          → r ≡ judge (completionChecks a b c) (λ n. n) 0 → Passes x
       go true b c s d l e = absurd (omega arith)
       go false false c s d l e = absurd (omega arith)
       go false true false s d l e = absurd (omega arith)

@@ -15,11 +15,10 @@ use fields::tags;
 use layouts::Group;
 use layouts::after_group;
 ghost use mathlib.Core.Path.{_≡_};
-ghost use mathlib.Core.Bool.{not};
-ghost use mathlib.Core.List.{[], _∷_};
+ghost use mathlib.Core.List.{[]};
 ghost use lib.ListN.{length};
-ghost use Rattle.model.specs.Commands.{check, judge};
-ghost use Rattle.model.specs.Complete.{isDraft, completionOk, complete};
+ghost use Rattle.model.specs.Commands.{judge};
+ghost use Rattle.model.specs.Complete.{isDraft, completionOk, completionChecks, complete};
 ghost use Rattle.fields.specs.Refusals.{ended, ends};
 ghost use Rattle.completion.specs.Completions.{completion};
 
@@ -63,17 +62,17 @@ fn completion_ok(kind: u32, attestation: usize, signature: &[u8], certificate: &
     false
 }
 
-// The first refusal: 1 for a short output, 5 for a draft that no command can write, 4 for what is lent beside it; 0 if there is none.
-fn refusal_of(short: bool, drafted: bool, sealed: bool) -> u32
-    ensures { λ r. ⌜ r ≡ judge (check 1 short ∷ check 5 (not drafted) ∷ check 4 (not sealed) ∷ []) (λ n. n) 0 ⌝ }
+// The first refusal: 1 for a short output, 5 for a draft that no command can write, 4 for what is lent with it; 0 if there is none.
+fn refusal_of(short: bool, draft_ok: bool, lent_ok: bool) -> u32
+    ensures { λ r. ⌜ r ≡ judge (completionChecks short «draft_ok» «lent_ok») (λ n. n) 0 ⌝ }
 {
     if short {
         return SHORT_OUTPUT;
     }
-    if !drafted {
+    if !draft_ok {
         return NOT_WRITTEN;
     }
-    if !sealed {
+    if !lent_ok {
         return WRONG_LENT;
     }
     0
@@ -95,9 +94,9 @@ pub fn complete(
         (completion kind (now (draft .entry)) attestation (now (signature .entry)) (now (certificate .entry)) (length (now (out .entry)))))
         (now (out .entry)) ⌝ }
 {
-    let drafted = is_draft(kind, draft);
-    let sealed = completion_ok(kind, attestation, signature, certificate);
-    let refusal = refusal_of(out.len() < LEAST_OUTPUT, drafted, sealed);
+    let draft_ok = is_draft(kind, draft);
+    let lent_ok = completion_ok(kind, attestation, signature, certificate);
+    let refusal = refusal_of(out.len() < LEAST_OUTPUT, draft_ok, lent_ok);
     if refusal != 0 {
         return Written::Refused(refusal);
     }

@@ -6,7 +6,7 @@ use lib.Dec.{ltb, eqb}
 use Rattle.model.specs.Lists.{any, empty}
 use Rattle.model.specs.Tlv.{le, Tlv, tlv, bytes, fits, tagOf, ok, signature, certificate, full, surrogate, register, sign, responseTag, assertionTag, regAssertionTag, authAssertionTag}
 use Rattle.model.specs.Layouts.{Layout, end, reads}
-use Rattle.model.specs.Commands.{judge, check, Result, refused, gave, keyRegistrationData, signedData, leastOutput, over}
+use Rattle.model.specs.Commands.{Check, check, judge, Result, refused, gave, keyRegistrationData, signedData, leastOutput, over}
 
 -- what is lent to a completion, and the response output's length
 pub record Completion : Type 0 where
@@ -52,12 +52,14 @@ completed c =
     let held = bytes (tlv (cond signs authAssertionTag regAssertionTag) (assertion c) ∷ []) in
     bytes (tlv (responseTag (cond signs sign register)) (bytes (tlv (tagOf ok) (le 2 0) ∷ tlv assertionTag held ∷ [])) ∷ [])
 
+-- "1; 5 if .. the lent draft is none that a command can write ..; 4 unless ..": whether the output is short, the draft is one, and what is
+-- lent with it is right
+abbrev pub completionChecks : Bool → Bool → Bool → List Check
+completionChecks short draftOk lentOk = check 1 short ∷ check 5 (not draftOk) ∷ check 4 (not lentOk) ∷ []
+
 unfoldable pub complete : Completion → Result (List ℕ)
 complete c =
-    judge
-    (check 1 (ltb (c .output) leastOutput) ∷ check 5 (not (isDraft (c .kind) (c .draft))) ∷ check 4 (not (completionOk c)) ∷ [])
-    refused
-    (gave (completed c))
+    judge (completionChecks (ltb (c .output) leastOutput) (isDraft (c .kind) (c .draft)) (completionOk c)) refused (gave (completed c))
 
 -- the response output after it
 abbrev pub outputOf : Result (List ℕ) → List ℕ → List ℕ
