@@ -84,11 +84,11 @@ static void show_refusal(const char *asked, uint32_t refusal, uint32_t expected,
 }
 
 static void refuse_command(
-    const char *asked, struct bytes command, struct bytes nonce, const struct table *table, uint32_t expected)
+    const char *asked, struct bytes command, uint32_t verdict, struct bytes nonce, const struct table *table, uint32_t expected)
 {
     struct hash any = sha256(nothing());
     struct lent lent = {
-        UAF_VERIFIED, UAF_SHOWN_CONFIRMED, WHOLE(any.bytes), WHOLE(any.bytes), WHOLE(any.bytes), nonce, WHOLE(any.bytes)};
+        verdict, UAF_SHOWN_CONFIRMED, WHOLE(any.bytes), WHOLE(any.bytes), WHOLE(any.bytes), nonce, WHOLE(any.bytes)};
     struct answer answer;
     memset(&answer, MARK, sizeof answer);
     uint32_t refusal = token_command(command, &lent, table, &answer);
@@ -116,8 +116,9 @@ void refusals(const struct afternoon *a)
     damaged.size -= 1;
     show("\n9. Whatever reaches the port: a number from 1 to 5, and no lent byte is changed\n");
     refuse_completion("an output of 4,095 bytes", 1, UAF_REFUSED_OUTPUT);
-    refuse_command("a stored table that lost its last byte", WHOLE(info), WHOLE(nonce), &damaged, UAF_REFUSED_TABLE);
-    refuse_command("a command of 3 bytes", three, WHOLE(nonce), table, UAF_REFUSED_COMMAND);
-    refuse_command("a Sign that is lent a nonce of 7 bytes", WHOLE(sign_tag), seven, table, UAF_REFUSED_LENT);
+    refuse_command("a stored table that lost its last byte", WHOLE(info), UAF_VERIFIED, WHOLE(nonce), &damaged, UAF_REFUSED_TABLE);
+    refuse_command("a command of 3 bytes", three, UAF_VERIFIED, WHOLE(nonce), table, UAF_REFUSED_COMMAND);
+    refuse_command("a Sign that is lent a nonce of 7 bytes", WHOLE(sign_tag), UAF_VERIFIED, seven, table, UAF_REFUSED_LENT);
+    refuse_command("a Sign with a verdict of 256, whose low byte is 0", WHOLE(sign_tag), 256, WHOLE(nonce), table, UAF_REFUSED_LENT);
     refuse_completion("a draft to complete that is none", 0, UAF_REFUSED_BYTES);
 }

@@ -42,7 +42,7 @@ tableValue t = record { records = firsts spareRecord 32 (map recordValue t); len
 abbrev pub TidyRecord : Record → Type 0
 TidyRecord r = r .name ≡ firsts 0 128 (firsts 0 (r .«name_len») (r .name))
 
--- spare bytes are zero in a table, in each of its records and past the last
+-- a table of at most 32 records whose spare bytes are zero, in each of them and past the last
 pub record Tidy (t : Table) : Type 0 where
   pub few : t .len ≤ 32
   pub names : (i : ℕ) → i < t .len → TidyRecord (getD (t .records) i noValue)
