@@ -16,8 +16,8 @@ static struct hash mixed_of(struct caller caller)
     both.size = caller.access_token.size + caller.app_id.size;
     if (both.size > sizeof both.bytes)
         fail_because("AppID", "too long");
-    memcpy(both.bytes, caller.access_token.at, caller.access_token.size);
-    memcpy(both.bytes + caller.access_token.size, caller.app_id.at, caller.app_id.size);
+    copy(both.bytes, caller.access_token);
+    copy(both.bytes + caller.access_token.size, caller.app_id);
     return sha256(FILLED(both));
 }
 
@@ -105,11 +105,11 @@ static void run(struct afternoon *a, const struct request *request, size_t statu
     char why[128];
     uint32_t refusal = terminal_run(&a->terminal, request, response);
     if (refusal != 0) {
-        snprintf(why, sizeof why, "refusal %u", (unsigned)refusal);
+        snprintf(why, sizeof why, "refusal %u: %s", (unsigned)refusal, uaf_refusal_name(refusal));
         fail_because("command", why);
     }
     if (response->status != status) {
-        snprintf(why, sizeof why, "%s, and not %s", status_name(response->status), status_name(status));
+        snprintf(why, sizeof why, "%s, and not %s", uaf_status_name(response->status), uaf_status_name(status));
         fail_because("command", why);
     }
 }

@@ -8,7 +8,6 @@
 #include <unistd.h>
 
 #include "fail.h"
-#include "tlv.h"
 
 static FILE *create(const struct archive *archive, const char *name)
 {
@@ -44,9 +43,9 @@ void archive_close(struct archive *archive)
 
 static const char *kind_of(const struct response *response)
 {
-    if (field_of(response, TAG_PUB_KEY).size == 0)
+    if (field_of(response, UAF_TAG_PUB_KEY).size == 0)
         return "sign";
-    return field_of(response, TAG_CERT).size > 0 ? "full" : "surrogate";
+    return field_of(response, UAF_TAG_CERT).size > 0 ? "full" : "surrogate";
 }
 
 static void write_line(FILE *manifest, const char *name, const struct asked *asked, const struct response *response)

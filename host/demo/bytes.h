@@ -30,10 +30,10 @@ struct hash {
     uint8_t bytes[32];
 };
 
-/* No bytes. The entries want a pointer that is not NULL even then. */
+/* No bytes. The entries do not follow the pointer of a stretch of none. */
 static inline struct bytes nothing(void)
 {
-    return (struct bytes){(const uint8_t *)"", 0};
+    return (struct bytes){NULL, 0};
 }
 
 static inline struct bytes text(const char *letters)
@@ -41,9 +41,16 @@ static inline struct bytes text(const char *letters)
     return (struct bytes){(const uint8_t *)letters, strlen(letters)};
 }
 
+/* memcmp and memcpy take no NULL, not even for no bytes. */
 static inline bool same(struct bytes a, struct bytes b)
 {
-    return a.size == b.size && memcmp(a.at, b.at, a.size) == 0;
+    return a.size == b.size && (a.size == 0 || memcmp(a.at, b.at, a.size) == 0);
+}
+
+static inline void copy(uint8_t *to, struct bytes from)
+{
+    if (from.size > 0)
+        memcpy(to, from.at, from.size);
 }
 
 #endif

@@ -1,7 +1,6 @@
 #include "commands.h"
 
 #include "fail.h"
-#include "tlv.h"
 
 static void put_number(uint8_t *at, size_t n)
 {
@@ -25,7 +24,7 @@ static void add(struct command *command, uint16_t tag, struct bytes value)
     uint8_t *at = command->bytes + command->size;
     put_number(at, tag);
     put_number(at + 2, value.size);
-    memcpy(at + 4, value.at, value.size);
+    copy(at + 4, value);
     command->size += 4 + value.size;
     put_number(command->bytes + 2, command->size - 4);
 }
@@ -41,40 +40,40 @@ static void start_for(struct command *command, uint16_t tag, struct caller calle
 {
     const uint8_t index[] = {0};
     start(command, tag);
-    add(command, TAG_AUTHENTICATOR_INDEX, WHOLE(index));
-    add(command, TAG_APPID, caller.app_id);
+    add(command, UAF_TAG_AUTHENTICATOR_INDEX, WHOLE(index));
+    add(command, UAF_TAG_APPID, caller.app_id);
 }
 
 void command_get_info(struct command *command)
 {
-    start(command, TAG_GETINFO);
+    start(command, UAF_TAG_GETINFO_CMD);
 }
 
 void command_register(
     struct command *command, struct caller caller, struct bytes challenge_hash, struct bytes username, uint16_t attestation)
 {
-    start_for(command, TAG_REGISTER, caller);
-    add(command, TAG_FINAL_CHALLENGE_HASH, challenge_hash);
-    add(command, TAG_USERNAME, username);
-    add_number(command, TAG_ATTESTATION_TYPE, attestation);
-    add(command, TAG_KEYHANDLE_ACCESS_TOKEN, caller.access_token);
+    start_for(command, UAF_TAG_REGISTER_CMD, caller);
+    add(command, UAF_TAG_FINAL_CHALLENGE_HASH, challenge_hash);
+    add(command, UAF_TAG_USERNAME, username);
+    add_number(command, UAF_TAG_ATTESTATION_TYPE, attestation);
+    add(command, UAF_TAG_KEYHANDLE_ACCESS_TOKEN, caller.access_token);
 }
 
 void command_sign(
     struct command *command, struct caller caller, struct bytes challenge_hash, struct bytes content, struct bytes key_handle)
 {
-    start_for(command, TAG_SIGN, caller);
-    add(command, TAG_FINAL_CHALLENGE_HASH, challenge_hash);
+    start_for(command, UAF_TAG_SIGN_CMD, caller);
+    add(command, UAF_TAG_FINAL_CHALLENGE_HASH, challenge_hash);
     if (content.size > 0)
-        add(command, TAG_TRANSACTION_CONTENT, content);
-    add(command, TAG_KEYHANDLE_ACCESS_TOKEN, caller.access_token);
+        add(command, UAF_TAG_TRANSACTION_CONTENT, content);
+    add(command, UAF_TAG_KEYHANDLE_ACCESS_TOKEN, caller.access_token);
     if (key_handle.size > 0)
-        add(command, TAG_KEYHANDLE, key_handle);
+        add(command, UAF_TAG_KEYHANDLE, key_handle);
 }
 
 void command_deregister(struct command *command, struct caller caller, struct bytes key_id)
 {
-    start_for(command, TAG_DEREGISTER, caller);
-    add(command, TAG_KEYID, key_id);
-    add(command, TAG_KEYHANDLE_ACCESS_TOKEN, caller.access_token);
+    start_for(command, UAF_TAG_DEREGISTER_CMD, caller);
+    add(command, UAF_TAG_KEYID, key_id);
+    add(command, UAF_TAG_KEYHANDLE_ACCESS_TOKEN, caller.access_token);
 }

@@ -3,10 +3,10 @@
 #define DEMO_COMMANDS_H
 
 #include "bytes.h"
+#include "uaf_token.h"
 
-/* 8,192 bytes is the longest command that the token accepts. */
 struct command {
-    uint8_t bytes[8192];
+    uint8_t bytes[UAF_MOST_COMMAND];
     size_t size;
 };
 

@@ -11,9 +11,6 @@
 #include "edges.h"
 #include "fail.h"
 #include "show.h"
-#include "tlv.h"
-
-
 
 static void say_what_this_is(void)
 {
@@ -89,7 +86,7 @@ static void register_sellers(struct afternoon *a)
 static struct bytes handle_in(const struct response *list, const char *username)
 {
     for (size_t i = 0; i + 1 < list->count; i++)
-        if (list->tags[i] == TAG_USERNAME && same(field(list, i), text(username)))
+        if (list->tags[i] == UAF_TAG_USERNAME && same(field(list, i), text(username)))
             return field(list, i + 1);
     fail_because(username, "not in the list");
 }

@@ -2,7 +2,6 @@
 
 #include "fail.h"
 #include "show.h"
-#include "tlv.h"
 
 /* Sets a record's SignCounter: COUNTERS is the last child of a stored record, so these are its last 4 bytes. */
 static void set_count(struct table *table, struct bytes key_id, uint32_t count)

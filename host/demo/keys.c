@@ -54,10 +54,16 @@ void key_write(EVP_PKEY *key, struct blob *out)
     WRITE_DER(i2d_PrivateKey, key, out);
 }
 
+/* OpenSSL's DER readers take a long, and a pointer that is not NULL. */
+static bool is_readable(struct bytes der)
+{
+    return der.size > 0 && der.size <= LONG_MAX;
+}
+
 EVP_PKEY *key_read(struct bytes der)
 {
     const uint8_t *at = der.at;
-    return der.size > LONG_MAX ? NULL : d2i_AutoPrivateKey(NULL, &at, (long)der.size);
+    return !is_readable(der) ? NULL : d2i_AutoPrivateKey(NULL, &at, (long)der.size);
 }
 
 void public_key_write(EVP_PKEY *key, struct blob *out)
@@ -68,7 +74,7 @@ void public_key_write(EVP_PKEY *key, struct blob *out)
 EVP_PKEY *public_key_read(struct bytes der)
 {
     const uint8_t *at = der.at;
-    return der.size > LONG_MAX ? NULL : d2i_PUBKEY(NULL, &at, (long)der.size);
+    return !is_readable(der) ? NULL : d2i_PUBKEY(NULL, &at, (long)der.size);
 }
 
 void key_sign(EVP_PKEY *key, struct bytes message, struct blob *signature)
@@ -117,7 +123,7 @@ void certificate_new(EVP_PKEY *key, struct blob *out)
 EVP_PKEY *certificate_key(struct bytes der)
 {
     const uint8_t *at = der.at;
-    X509 *certificate = der.size > LONG_MAX ? NULL : d2i_X509(NULL, &at, (long)der.size);
+    X509 *certificate = !is_readable(der) ? NULL : d2i_X509(NULL, &at, (long)der.size);
     EVP_PKEY *key = certificate == NULL ? NULL : X509_get_pubkey(certificate);
     X509_free(certificate);
     return key;

@@ -2,7 +2,8 @@
 
     kills [RUNS [SEED]]
 
-Three parts, each of which ends with a line that sums it up:
+It says first how long it will take, by the time of one run, and while it goes on, on stderr, how far it is. Three parts, each of
+which ends with a line that sums it up:
 
 power cuts    SIGKILL loses nothing that was handed to the kernel; a power cut does. So the calls of one run are replayed
               here, and at each of them the disk is looked at in every state that a power cut may leave it in: each change of
@@ -31,6 +32,7 @@ import tempfile
 import time
 
 OUT = pathlib.Path(__file__).resolve().parents[2] / "target" / "demo"
+WORKERS = min(4, os.cpu_count() or 1)
 DEMO, TABLE_CHECK, KILL_AT = OUT / "demo", OUT / "table_check", OUT / "kill_at.so"
 COMPOSITE, AUTHENTICATOR_ASSERTION, KEYID, COUNTERS = 0x1000, 0x280F, 0x2E09, 0x2E0D
 EVENT = re.compile(r"^    (stored|counted|removing|removed) ([0-9a-f]{64})(?: ([0-9]+))?$")
@@ -38,6 +40,33 @@ EVENT = re.compile(r"^    (stored|counted|removing|removed) ([0-9a-f]{64})(?: ([
 
 class Violation(Exception):
     """Something that must hold does not."""
+
+
+class Progress:
+    """Says on stderr how far a part is: in a terminal in one line, else in a line every ten seconds."""
+
+    def __init__(self, part, of):
+        self.part, self.of, self.done = part, of, 0
+        self.every = 0.2 if sys.stderr.isatty() else 10
+        self.due = time.monotonic() + self.every
+
+    def __enter__(self):
+        return self
+
+    def step(self):
+        self.done += 1
+        if time.monotonic() < self.due:
+            return
+        self.due = time.monotonic() + self.every
+        self.say(f"{self.part}: {self.done} of {self.of}")
+
+    def say(self, text):
+        print(f"\r{text:<72}" if sys.stderr.isatty() else text, end="" if sys.stderr.isatty() else "\n", file=sys.stderr, flush=True)
+
+    def __exit__(self, *_):
+        if sys.stderr.isatty():
+            self.say("")
+            print("\r", end="", file=sys.stderr, flush=True)
 
 
 # ---- what the demonstration said, and what is on disk
@@ -220,13 +249,14 @@ def until_registration(calls):
     return calls[: first + 1]
 
 
-def every_call(folder, base, calls):
+def every_call(folder, base, calls, progress):
     points = list(kill_points(calls))
-    with concurrent.futures.ThreadPoolExecutor(min(4, os.cpu_count() or 1)) as pool:
+    with concurrent.futures.ThreadPoolExecutor(WORKERS) as pool:
         waiting = [pool.submit(kill_once, folder, base, at, how) for at, how in points]
         try:
             for one in waiting:
                 one.result()
+                progress.step()
         except Violation:
             pool.shutdown(cancel_futures=True)
             raise
@@ -341,7 +371,7 @@ class ImageCheck:
         check_recovery(state, ledger)
 
 
-def power_cuts(folder, base, run_of, chance):
+def power_cuts(folder, base, run_of, chance, progress):
     """At each call: what the disk may be, against what had been said just after it and just before the next one. One of these
     images at every third call, by chance, is started on."""
     disk, check, images = Disk(base, run_of.state), ImageCheck(folder / "image", run_of.state), 0
@@ -360,6 +390,7 @@ def power_cuts(folder, base, run_of, chance):
                     check.recover(chance.choice(may_be), ledger)
             except Violation as problem:
                 raise Violation(f"power cut after call {i + 1}, {call.name}: {problem}")
+        progress.step()
     return images
 
 
@@ -388,9 +419,9 @@ def running_time(state):
     return sorted(times)[1]
 
 
-def random_moments(folder, runs, chance):
+def random_moments(folder, runs, whole, chance, progress):
+    """whole: how long a run takes in this folder."""
     state, out, ledger, killed = folder / "state", folder / "out", Ledger(), 0
-    whole = running_time(folder / "timed")
     for i in range(runs):
         delay = chance.uniform(0, 1.1 * whole)
         try:
@@ -399,11 +430,16 @@ def random_moments(folder, runs, chance):
             ledger.settle(check_disk(state, ledger))
         except Violation as problem:
             raise Violation(f"run {i + 1}, killed after {1000 * delay:.1f} ms: {problem}")
+        progress.step()
     check_recovery(state, ledger)
-    return killed, 1000 * whole
+    return killed
 
 
 # ---- all of it
+
+
+def minutes(seconds):
+    return f"{seconds / 60:.0f} min" if seconds >= 90 else f"{seconds:.0f} s"
 
 
 def main():
@@ -420,14 +456,21 @@ def main():
         crashed = crashed_state(folder, first.calls)
         second = logged_run(folder, crashed, "second")
         chance = random.Random(seed)
+        calls, closing = len(first.calls) + len(second.calls), until_registration(second.calls)
+        points = len([*kill_points(first.calls), *kill_points(closing)])
+        # By a run in memory and one on the disk; the factors, starts for each call, kill and random run, were measured.
+        quick, whole = running_time(folder / "timed"), running_time(disk / "timed")
+        print(f"kills: about {minutes(quick * (0.9 * calls + 3 * points / WORKERS) + whole * 0.7 * runs)}", flush=True)
 
-        images = power_cuts(folder, none, first, chance) + power_cuts(folder, crashed, second, chance)
-        print(f"power cuts: at {len(first.calls) + len(second.calls)} calls, {images} images of the disk", flush=True)
-        closing = until_registration(second.calls)
-        kills = every_call(folder, none, first.calls) + every_call(folder, crashed, closing)
+        with Progress("power cuts: calls", calls) as progress:
+            images = power_cuts(folder, none, first, chance, progress) + power_cuts(folder, crashed, second, chance, progress)
+        print(f"power cuts: at {calls} calls, {images} images of the disk", flush=True)
+        with Progress("every call: kills", points) as progress:
+            kills = every_call(folder, none, first.calls, progress) + every_call(folder, crashed, closing, progress)
         print(f"every call: {len(first.calls)} on a new folder, {len(closing)} on a crashed one; {kills} kills", flush=True)
-        killed, whole = random_moments(disk, runs, chance)
-        print(f"random: {runs} runs of {whole:.0f} ms each, {killed} killed before the end; seed {seed}")
+        with Progress("random: runs", runs) as progress:
+            killed = random_moments(disk, runs, whole, chance, progress)
+        print(f"random: {runs} runs of {1000 * whole:.0f} ms each, {killed} killed before the end; seed {seed}")
     except Violation as problem:
         print(f"kills: FAILED: {problem}. The state folders are in {folder} and {disk}")
         return 1

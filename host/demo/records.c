@@ -6,9 +6,9 @@ bool record_next(struct bytes *rest, struct record *record)
 {
     uint16_t tag;
     struct bytes children, counter;
-    if (!tlv_next(rest, &tag, &children) || !tlv_find(children, TAG_KEYID, &record->key_id)
-        || !tlv_find(children, TAG_KEYHANDLE_ACCESS_TOKEN, &record->mixed)
-        || !tlv_find(children, TAG_USERNAME, &record->username) || !tlv_find(children, TAG_COUNTERS, &counter))
+    if (!tlv_next(rest, &tag, &children) || !tlv_find(children, UAF_TAG_KEYID, &record->key_id)
+        || !tlv_find(children, UAF_TAG_KEYHANDLE_ACCESS_TOKEN, &record->mixed)
+        || !tlv_find(children, UAF_TAG_USERNAME, &record->username) || !tlv_find(children, UAF_TAG_COUNTERS, &counter))
         return false;
     record->count = number(counter);
     return true;

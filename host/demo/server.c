@@ -21,21 +21,21 @@ static bool is_hash_of(struct bytes value, struct bytes bytes)
 static void check_signature(const struct response *response, EVP_PKEY *key)
 {
     require(key != NULL, "no key to check with");
-    require(key_verifies(key, signed_part(response), field_of(response, TAG_SIGNATURE)), "signature");
+    require(key_verifies(key, signed_part(response), field_of(response, UAF_TAG_SIGNATURE)), "signature");
     EVP_PKEY_free(key);
 }
 
 /* With full attestation the certificate's key signed, in surrogate the new key itself. */
 static EVP_PKEY *attesting_key(const struct response *response)
 {
-    struct bytes certificate = field_of(response, TAG_CERT);
-    return certificate.size > 0 ? certificate_key(certificate) : public_key_read(field_of(response, TAG_PUB_KEY));
+    struct bytes certificate = field_of(response, UAF_TAG_CERT);
+    return certificate.size > 0 ? certificate_key(certificate) : public_key_read(field_of(response, UAF_TAG_PUB_KEY));
 }
 
 void server_enrol(struct server *server, const char *username, struct bytes challenge, const struct response *response)
 {
-    struct bytes key_id = field_of(response, TAG_KEYID), public_key = field_of(response, TAG_PUB_KEY);
-    require(is_hash_of(field_of(response, TAG_FINAL_CHALLENGE_HASH), challenge), "challenge");
+    struct bytes key_id = field_of(response, UAF_TAG_KEYID), public_key = field_of(response, UAF_TAG_PUB_KEY);
+    require(is_hash_of(field_of(response, UAF_TAG_FINAL_CHALLENGE_HASH), challenge), "challenge");
     check_signature(response, attesting_key(response));
 
     require(server->count < sizeof server->accounts / sizeof server->accounts[0], "too many accounts");
@@ -44,8 +44,8 @@ void server_enrol(struct server *server, const char *username, struct bytes chal
     require(public_key.size <= sizeof account->public_key.bytes, "public key");
     snprintf(account->username, sizeof account->username, "%s", username);
     account->count = 0;
-    memcpy(account->key_id.bytes, key_id.at, key_id.size);
-    memcpy(account->public_key.bytes, public_key.at, public_key.size);
+    copy(account->key_id.bytes, key_id);
+    copy(account->public_key.bytes, public_key);
     account->public_key.size = public_key.size;
 }
 
@@ -60,11 +60,11 @@ static struct account *account_of(struct server *server, struct bytes key_id)
 const struct account *server_book(
     struct server *server, struct bytes challenge, struct bytes content, const struct response *response)
 {
-    struct account *account = account_of(server, field_of(response, TAG_KEYID));
-    struct bytes content_hash = field_of(response, TAG_TRANSACTION_CONTENT_HASH);
-    uint32_t count = number(field_of(response, TAG_COUNTERS));
+    struct account *account = account_of(server, field_of(response, UAF_TAG_KEYID));
+    struct bytes content_hash = field_of(response, UAF_TAG_TRANSACTION_CONTENT_HASH);
+    uint32_t count = number(field_of(response, UAF_TAG_COUNTERS));
     require(account != NULL, "no such account");
-    require(is_hash_of(field_of(response, TAG_FINAL_CHALLENGE_HASH), challenge), "challenge");
+    require(is_hash_of(field_of(response, UAF_TAG_FINAL_CHALLENGE_HASH), challenge), "challenge");
     require(content.size > 0 ? is_hash_of(content_hash, content) : content_hash.size == 0, "content");
     check_signature(response, public_key_read(FILLED(account->public_key)));
     require(count > account->count, "a count that is not new");

@@ -43,66 +43,6 @@ void show_count(struct bytes key_id, uint32_t count)
     show_flush();
 }
 
-struct name {
-    size_t number;
-    const char *letters;
-};
-
-#define COUNT(array) (sizeof(array) / sizeof((array)[0]))
-
-static const char *name_in(const struct name *names, size_t count, size_t n)
-{
-    for (size_t i = 0; i < count; i++)
-        if (names[i].number == n)
-            return names[i].letters;
-    return "?";
-}
-
-const char *status_name(size_t status)
-{
-    static const struct name names[] = {
-        {UAF_STATUS_OK, "OK"},
-        {UAF_STATUS_ERR_UNKNOWN, "ERR_UNKNOWN"},
-        {UAF_STATUS_ACCESS_DENIED, "ACCESS_DENIED"},
-        {UAF_STATUS_USER_NOT_ENROLLED, "USER_NOT_ENROLLED"},
-        {UAF_STATUS_CANNOT_RENDER_TRANSACTION_CONTENT, "CANNOT_RENDER_TRANSACTION_CONTENT"},
-        {UAF_STATUS_USER_CANCELLED, "USER_CANCELLED"},
-        {UAF_STATUS_CMD_NOT_SUPPORTED, "CMD_NOT_SUPPORTED"},
-        {UAF_STATUS_ATTESTATION_NOT_SUPPORTED, "ATTESTATION_NOT_SUPPORTED"},
-        {UAF_STATUS_PARAMS_INVALID, "PARAMS_INVALID"},
-        {UAF_STATUS_USER_NOT_RESPONSIVE, "USER_NOT_RESPONSIVE"},
-        {UAF_STATUS_INSUFFICIENT_RESOURCES, "INSUFFICIENT_RESOURCES"},
-        {UAF_STATUS_USER_LOCKOUT, "USER_LOCKOUT"},
-    };
-    return name_in(names, COUNT(names), status);
-}
-
-static const char *tag_name(size_t tag)
-{
-    static const struct name names[] = {
-        {TAG_KEYHANDLE, "KEYHANDLE"},
-        {TAG_USERNAME, "USERNAME"},
-        {TAG_ATTESTATION_TYPE, "ATTESTATION_TYPE"},
-        {TAG_STATUS_CODE, "STATUS_CODE"},
-        {TAG_METADATA, "METADATA"},
-        {TAG_ASSERTION_SCHEME, "ASSERTION_SCHEME"},
-        {TAG_TC_DISPLAY_CONTENT_TYPE, "TC_DISPLAY_CONTENT_TYPE"},
-        {TAG_AUTHENTICATOR_INDEX, "AUTHENTICATOR_INDEX"},
-        {TAG_API_VERSION, "API_VERSION"},
-        {TAG_CERT, "CERT"},
-        {TAG_SIGNATURE, "SIGNATURE"},
-        {TAG_KEYID, "KEYID"},
-        {TAG_FINAL_CHALLENGE_HASH, "FINAL_CHALLENGE_HASH"},
-        {TAG_AAID, "AAID"},
-        {TAG_PUB_KEY, "PUB_KEY"},
-        {TAG_COUNTERS, "COUNTERS"},
-        {TAG_ASSERTION_INFO, "ASSERTION_INFO"},
-        {TAG_NONCE, "NONCE"},
-        {TAG_TRANSACTION_CONTENT_HASH, "TRANSACTION_CONTENT_HASH"},
-    };
-    return name_in(names, COUNT(names), tag);
-}
-
 void show_short(struct bytes value)
 {
     struct bytes front = {value.at, value.size < 8 ? value.size : 8};
@@ -145,23 +85,23 @@ static void show_counters(struct bytes value)
 static void show_value(size_t tag, struct bytes value)
 {
     switch (tag) {
-    case TAG_AAID:
-    case TAG_USERNAME:
-    case TAG_ASSERTION_SCHEME:
-    case TAG_TC_DISPLAY_CONTENT_TYPE:
+    case UAF_TAG_AAID:
+    case UAF_TAG_USERNAME:
+    case UAF_TAG_ASSERTION_SCHEME:
+    case UAF_TAG_TC_DISPLAY_CONTENT_TYPE:
         show("%.*s", (int)value.size, (const char *)value.at);
         break;
-    case TAG_API_VERSION:
-    case TAG_AUTHENTICATOR_INDEX:
+    case UAF_TAG_API_VERSION:
+    case UAF_TAG_AUTHENTICATOR_INDEX:
         show("%u", (unsigned)number(value));
         break;
-    case TAG_ATTESTATION_TYPE:
+    case UAF_TAG_ATTESTATION_TYPE:
         show("0x%04X %s", (unsigned)number(value), number(value) == UAF_BASIC_FULL ? "full" : "surrogate");
         break;
-    case TAG_ASSERTION_INFO:
+    case UAF_TAG_ASSERTION_INFO:
         show_assertion_info(value);
         break;
-    case TAG_COUNTERS:
+    case UAF_TAG_COUNTERS:
         show_counters(value);
         break;
     default:
@@ -171,14 +111,14 @@ static void show_value(size_t tag, struct bytes value)
 
 void show_response(const struct response *response)
 {
-    show("  < %s 0x%02X, %zu bytes", status_name(response->status), (unsigned)response->status, response->size);
+    show("  < %s 0x%02X, %zu bytes", uaf_status_name(response->status), (unsigned)response->status, response->size);
     if (response->signed_length > 0)
         show("; signed: %zu bytes from byte %zu on", response->signed_length, response->signed_place);
     show("\n");
     for (size_t i = 0; i < response->count; i++) {
-        if (response->tags[i] == TAG_STATUS_CODE)
+        if (response->tags[i] == UAF_TAG_STATUS_CODE)
             continue; /* said above */
-        show("      %-24s  ", tag_name(response->tags[i]));
+        show("      %-24s  ", uaf_tag_name(response->tags[i]));
         show_value(response->tags[i], field(response, i));
         show("\n");
     }

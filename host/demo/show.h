@@ -24,6 +24,4 @@ void show_response(const struct response *response);
 /* The first bytes of a value, enough to tell it from another. */
 void show_short(struct bytes value);
 
-const char *status_name(size_t status);
-
 #endif

@@ -159,14 +159,13 @@ static void keep(struct terminal *terminal, const struct table *left, EVP_PKEY *
     terminal->table = *left;
 }
 
-/* The KeyID in a draft says whose key signs. */
+/* The KeyID in a Sign's draft says whose key signs. */
 static struct bytes key_id_in(struct bytes draft)
 {
-    uint16_t tag;
-    struct bytes children, key_id;
-    if (!tlv_next(&draft, &tag, &children) || !tlv_find(children, TAG_KEYID, &key_id))
-        fail_because("draft", "no KeyID in it");
-    return key_id;
+    const uint8_t *key_id = uaf_draft_key_id(draft.at, draft.size);
+    if (key_id == NULL)
+        fail_because("draft", "not a Sign's");
+    return (struct bytes){key_id, UAF_KEY_ID_SIZE};
 }
 
 /* A registration is signed by the attestation key, with its certificate, or in surrogate by the new key itself. */
@@ -218,7 +217,7 @@ uint32_t terminal_run(struct terminal *terminal, const struct request *request, 
     struct blob public_key = {.size = 0};
     struct hash key_id = {{0}};
     EVP_PKEY *fresh = NULL;
-    if (number((struct bytes){request->command.bytes, 2}) == TAG_REGISTER) {
+    if (number((struct bytes){request->command.bytes, 2}) == UAF_TAG_REGISTER_CMD) {
         fresh = key_new();
         key_id = key_id_of(fresh, &public_key);
     }

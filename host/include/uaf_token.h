@@ -2,15 +2,20 @@
  * to be what document 01 defines; that this header declares each entry as it is compiled is not proved, and is tested by calling each through
  * it (host/tests/header).
  *
- * Stretches. A stretch is a pointer and a length in bytes. Where the length is 0 the pointer is not followed: it may be NULL. Otherwise it points
- * to that many bytes, of any alignment.
+ * Stretches. A stretch is a pointer and a length in bytes, at most PTRDIFF_MAX. Where the length is 0 the pointer is not followed: it may be NULL.
+ * Otherwise it points to that many bytes, of any alignment.
+ *
+ * Numbers and arrays that an entry writes (answer, response_length, tags and so on) are lent by a pointer that is not NULL and is aligned for
+ * its type, also where the call will be refused.
  *
  * Overlap. Inputs may overlap each other. An output, and a number or an array that an entry writes, overlaps nothing else that is lent: so the
  * table is read from one buffer and written into another, and a draft is copied out of the response output before it is completed into it.
  *
  * Results. An entry gives 0, or the number of one refusal. After a refusal no byte, number or array that was lent has changed. After 0 the bytes
- * of an output beyond the length written are as they were. Entries keep nothing between calls, so they may run at the same time; of the C
- * library they need memcpy and memset. A command takes about 3 KB of stack, completion and reader about 2. */
+ * of an output beyond the length written are as they were. Entries keep nothing between calls, so they may run at the same time.
+ *
+ * What they need. The archive is for x86-64, ELF, the System V calling convention. Of the C library it needs memcpy and nothing else; it has no
+ * data that is written, uses no heap and makes no system call. A command takes about 3 KB of stack, completion and reader about 2. */
 #ifndef UAF_TOKEN_H
 #define UAF_TOKEN_H
 
@@ -21,26 +26,129 @@
 extern "C" {
 #endif
 
-/* Refusals. */
-#define UAF_REFUSED_OUTPUT 1  /* an output is too short */
-#define UAF_REFUSED_TABLE 2   /* the stored table breaks a rule */
-#define UAF_REFUSED_COMMAND 3 /* fewer than 4 bytes, or none of the five commands */
-#define UAF_REFUSED_LENT 4    /* a lent result that this command or completion uses has a wrong length or number */
-#define UAF_REFUSED_BYTES 5   /* no draft of this kind, or no response */
+/* The version of this interface. The major number rises where a caller that was right may now be wrong: an entry, a parameter, a constant, the
+ * stored form or what an entry answers has changed or is gone. The minor number rises where something was added that such a caller need not
+ * know, and begins again at 0 with a new major one. */
+#define UAF_TOKEN_MAJOR 1
+#define UAF_TOKEN_MINOR 0
+#define UAF_TOKEN_VERSION "1.0"
 
-/* Statuses, in the STATUS_CODE of a response, by the names of UAF Authenticator Commands. */
-#define UAF_STATUS_OK 0x00
-#define UAF_STATUS_ERR_UNKNOWN 0x01
-#define UAF_STATUS_ACCESS_DENIED 0x02
-#define UAF_STATUS_USER_NOT_ENROLLED 0x03
-#define UAF_STATUS_CANNOT_RENDER_TRANSACTION_CONTENT 0x04
-#define UAF_STATUS_USER_CANCELLED 0x05
-#define UAF_STATUS_CMD_NOT_SUPPORTED 0x06
-#define UAF_STATUS_ATTESTATION_NOT_SUPPORTED 0x07
-#define UAF_STATUS_PARAMS_INVALID 0x08
-#define UAF_STATUS_USER_NOT_RESPONSIVE 0x0E
-#define UAF_STATUS_INSUFFICIENT_RESOURCES 0x0F
-#define UAF_STATUS_USER_LOCKOUT 0x10
+/* Refusals, statuses and tags stand in a list each, one X(NAME, number) for each of them. From these are made, below, the constants
+ * UAF_REFUSED_NAME, UAF_STATUS_NAME and UAF_TAG_NAME, and the functions that give names for a log. */
+
+/* Refusals. Document 01 has numbers for them and no names, so uaf_refusal_name gives what each means. */
+#define UAF_REFUSALS(X) \
+    X(OUTPUT, 1, "an output is too short") \
+    X(TABLE, 2, "the stored table breaks a rule") \
+    X(COMMAND, 3, "fewer than 4 bytes, or none of the five commands") \
+    X(LENT, 4, "a lent result that this command or completion uses has a wrong length or number") \
+    X(BYTES, 5, "no draft of this kind, or no response")
+
+/* Statuses, in the STATUS_CODE of a response, by the names of UAF Authenticator Commands without UAF_CMD_STATUS_. */
+#define UAF_STATUSES(X) \
+    X(OK, 0x00) \
+    X(ERR_UNKNOWN, 0x01) \
+    X(ACCESS_DENIED, 0x02) \
+    X(USER_NOT_ENROLLED, 0x03) \
+    X(CANNOT_RENDER_TRANSACTION_CONTENT, 0x04) \
+    X(USER_CANCELLED, 0x05) \
+    X(CMD_NOT_SUPPORTED, 0x06) \
+    X(ATTESTATION_NOT_SUPPORTED, 0x07) \
+    X(PARAMS_INVALID, 0x08) \
+    X(USER_NOT_RESPONSIVE, 0x0E) \
+    X(INSUFFICIENT_RESOURCES, 0x0F) \
+    X(USER_LOCKOUT, 0x10)
+
+/* Tags, by the names of UAF Authenticator Commands without TAG_ and UAFV1_, some of them shortened as document 01 has them: METADATA and NONCE
+ * are AUTHENTICATOR_METADATA and AUTHENTICATOR_NONCE there, CERT, BASIC_FULL and BASIC_SURROGATE begin with ATTESTATION_. These are all that a
+ * command, a response, a draft or a stored table has, a command's skipped children aside. */
+#define UAF_TAGS(X) \
+    /* commands */ \
+    X(GETINFO_CMD, 0x3401) \
+    X(REGISTER_CMD, 0x3402) \
+    X(SIGN_CMD, 0x3403) \
+    X(DEREGISTER_CMD, 0x3404) \
+    X(OPEN_SETTINGS_CMD, 0x3406) \
+    /* responses: the tag that uaf_read_fields gives */ \
+    X(GETINFO_CMD_RESPONSE, 0x3601) \
+    X(REGISTER_CMD_RESPONSE, 0x3602) \
+    X(SIGN_CMD_RESPONSE, 0x3603) \
+    X(DEREGISTER_CMD_RESPONSE, 0x3604) \
+    X(OPEN_SETTINGS_CMD_RESPONSE, 0x3606) \
+    /* fields of a response: the tags that uaf_read_fields lists. Those marked c may stand in a command too */ \
+    X(STATUS_CODE, 0x2808) \
+    X(API_VERSION, 0x280E) \
+    X(AUTHENTICATOR_INDEX, 0x280D) /* c */ \
+    X(METADATA, 0x2809) \
+    X(TC_DISPLAY_CONTENT_TYPE, 0x280C) \
+    X(ASSERTION_SCHEME, 0x280A) \
+    X(ATTESTATION_TYPE, 0x2807) /* c */ \
+    X(USERNAME, 0x2806) /* c */ \
+    X(KEYHANDLE, 0x2801) /* c */ \
+    X(AAID, 0x2E0B) \
+    X(ASSERTION_INFO, 0x2E0E) \
+    X(NONCE, 0x2E0F) \
+    X(FINAL_CHALLENGE_HASH, 0x2E0A) /* c */ \
+    X(TRANSACTION_CONTENT_HASH, 0x2E10) \
+    X(KEYID, 0x2E09) /* c */ \
+    X(COUNTERS, 0x2E0D) \
+    X(PUB_KEY, 0x2E0C) \
+    X(SIGNATURE, 0x2E06) \
+    X(CERT, 0x2E05) \
+    /* fields of a command alone. A stored record has KEYHANDLE_ACCESS_TOKEN for the mixed token */ \
+    X(USERVERIFY_TOKEN, 0x2803) \
+    X(APPID, 0x2804) \
+    X(KEYHANDLE_ACCESS_TOKEN, 0x2805) \
+    X(TRANSACTION_CONTENT, 0x2810) \
+    /* what holds other TLVs */ \
+    X(AUTHENTICATOR_INFO, 0x3811) \
+    X(USERNAME_AND_KEYHANDLE, 0x3802) \
+    X(AUTHENTICATOR_ASSERTION, 0x280F) \
+    X(REG_ASSERTION, 0x3E01) \
+    X(AUTH_ASSERTION, 0x3E02) \
+    X(KRD, 0x3E03) \
+    X(SIGNED_DATA, 0x3E04) \
+    X(BASIC_FULL, 0x3E07) \
+    X(BASIC_SURROGATE, 0x3E08)
+
+#define UAF_REFUSED_IS(name, number, words) UAF_REFUSED_##name = number,
+#define UAF_STATUS_IS(name, number) UAF_STATUS_##name = number,
+#define UAF_TAG_IS(name, number) UAF_TAG_##name = number,
+enum { UAF_REFUSALS(UAF_REFUSED_IS) };
+enum { UAF_STATUSES(UAF_STATUS_IS) };
+enum { UAF_TAGS(UAF_TAG_IS) };
+#undef UAF_REFUSED_IS
+#undef UAF_STATUS_IS
+#undef UAF_TAG_IS
+
+/* What a refusal means, and the names of a status and of a tag without their prefixes; "none" for 0, which is no refusal, and "unknown" for a
+ * number that is none of them. */
+#define UAF_CASE_WORDS(name, number, words) case number: return words;
+#define UAF_CASE_NAME(name, number) case number: return #name;
+static inline const char *uaf_refusal_name(uint32_t refusal)
+{
+    switch (refusal) {
+        case 0: return "none";
+        UAF_REFUSALS(UAF_CASE_WORDS)
+        default: return "unknown";
+    }
+}
+static inline const char *uaf_status_name(size_t status)
+{
+    switch (status) {
+        UAF_STATUSES(UAF_CASE_NAME)
+        default: return "unknown";
+    }
+}
+static inline const char *uaf_tag_name(size_t tag)
+{
+    switch (tag) {
+        UAF_TAGS(UAF_CASE_NAME)
+        default: return "unknown";
+    }
+}
+#undef UAF_CASE_WORDS
+#undef UAF_CASE_NAME
 
 /* The least lengths of the two outputs; nothing longer is ever written. */
 #define UAF_LEAST_RESPONSE 4096
@@ -101,8 +209,8 @@ extern "C" {
  *
  * After 0: *answer says what was written, *response_length how many bytes; the first *table_length bytes of table_out are the stored form of
  * the table left, which the next call is given. It has changed only after a draft or a Deregister with status OK: after any other status it is
- * the table that was given, byte for byte. A raised count must be in lasting storage before the signature over it leaves the token. A Sign's
- * draft has the KeyID that was chosen in the 32 bytes from *response_length - 40 on.
+ * the table that was given, byte for byte. A raised count must be in lasting storage before the signature over it leaves the token. Whose key
+ * signs a Sign's draft is said by the KeyID in it, uaf_draft_key_id; a registration's KeyID is the one that was lent.
  *
  * Content is asked about only where one record is chosen; a tie gives the list of names, whatever the display's result. As nothing is kept, a
  * first call that is lent UAF_SHOWN_CONFIRMED and then thrown away tells whether there is a draft, and so whether the content is to be shown. */
@@ -122,11 +230,21 @@ uint32_t uaf_command(
     uint8_t *table_out, size_t table_out_size,
     uint32_t *answer, size_t *response_length, size_t *table_length);
 
-/* The kinds of completion, and the attestation types. */
+/* Where the KeyID stands in a Sign's draft: the last two TLVs are KEYID and COUNTERS, of 4 bytes, so its value begins that many bytes before the
+ * draft's end. The function gives its place, with UAF_KEY_ID_SIZE bytes, in a draft that uaf_command wrote, and NULL in a registration's. */
+#define UAF_DRAFT_KEY_ID_FROM_END 40
+static inline const uint8_t *uaf_draft_key_id(const uint8_t *draft, size_t draft_size)
+{
+    if (draft_size < UAF_DRAFT_KEY_ID_FROM_END || (draft[0] | draft[1] << 8) != UAF_TAG_SIGNED_DATA)
+        return NULL;
+    return draft + (draft_size - UAF_DRAFT_KEY_ID_FROM_END);
+}
+
+/* The kinds of completion, and the attestation types, which are tags. */
 #define UAF_COMPLETE_REGISTRATION 0
 #define UAF_COMPLETE_SIGN 1
-#define UAF_BASIC_FULL 0x3E07
-#define UAF_BASIC_SURROGATE 0x3E08
+#define UAF_BASIC_FULL UAF_TAG_BASIC_FULL
+#define UAF_BASIC_SURROGATE UAF_TAG_BASIC_SURROGATE
 
 /* Makes the response of a draft and its signature (1 to 512 bytes). A registration has an attestation type, and with full attestation one
  * certificate (1 to 2,048 bytes), with surrogate none; a sign ignores both. Refusals, in this order: 1, 5, 4.

@@ -1,11 +1,22 @@
-"""The header's declarations against the source's: declared.py HEADER SOURCE...
+"""The header's declarations and constants against the source's: declared.py HEADER CRATES
 
 Each exported function of the Rattle source must be declared in the header, and no other, with the parameters that its own stand for, in their
-order and with their names: a slice is a pointer and a size, a number lent to be written a pointer."""
+order and with their names: a slice is a pointer and a size, a number lent to be written a pointer. The header's lists of tags and of statuses
+must have the names and numbers of the source's, and no others; its refusals and those of its limits that the source names, the same numbers."""
 
+import pathlib
 import re
 import sys
 
+# The source's constants, and what they are called in the header.
+REFUSALS = {
+    "SHORT_OUTPUT": "OUTPUT", "BROKEN_TABLE": "TABLE", "NO_COMMAND": "COMMAND", "WRONG_LENT": "LENT", "NOT_WRITTEN": "BYTES",
+}
+LIMITS = {
+    "fields/src/lib.rt": {"MAX_COMMAND": "MOST_COMMAND", "LEAST_OUTPUT": "LEAST_RESPONSE"},
+    "stored_table/src/records.rt": {"MAX_STORED": "LEAST_TABLE", "MAX_RECORDS": "MOST_RECORDS", "MAX_OWN": "MOST_OWN"},
+    "response_reader/src/readings.rt": {"MOST_FIELDS": "MOST_FIELDS"},
+}
 NUMBERS = {"u8": "uint8_t", "u16": "uint16_t", "u32": "uint32_t", "usize": "size_t"}
 
 
@@ -38,20 +49,53 @@ def declared(header):
         yield match[2], (match[1], split(match[3]))
 
 
-def read(path):
-    with open(path, encoding="utf-8") as file:
-        return file.read()
+def constants(source):
+    """The numbers that a source file names."""
+    return {name: int(number, 0) for name, number in re.findall(r"^(?:pub )?const (\w+): \w+ = (0x\w+|\d+);", source, re.M)}
 
 
-def main(header, *sources):
-    here, there = dict(declared(read(header))), {}
-    for source in sources:
-        there.update(exported(read(source)))
+def listed(header, name):
+    """The rows X(NAME, number) of a list of the header."""
+    body = re.search(rf"^#define {name}\(X\) *((?:.*\\\n)*.*)", header, re.M)
+    return {row: int(number, 0) for row, number in re.findall(r"X\((\w+), (\w+)", body[1])} if body else {}
+
+
+def limits(header):
+    return {name: int(number) for name, number in re.findall(r"^#define UAF_(\w+) (\d+)", header, re.M)}
+
+
+def renamed(numbers, names):
+    return {name: numbers.get(old) for old, name in names.items()}
+
+
+def compare(what, here, there):
+    """Says in what the header differs from the source; how much of it there is, and how much differs."""
     wrong = [name for name in sorted(here.keys() | there.keys()) if here.get(name) != there.get(name)]
     for name in wrong:
         print(f"{name}\n  header: {here.get(name)}\n  source: {there.get(name)}")
-    print(f"header: {len(here)} declarations, {len(wrong)} other than the source's")
-    return 1 if wrong or not there else 0
+    print(f"header: {len(here)} {what}, {len(wrong)} other than the source's")
+    return 0 if there and not wrong else 1
+
+
+def main(header, crates):
+    header = pathlib.Path(header).read_text(encoding="utf-8")
+    source = {path.relative_to(crates).as_posix(): path.read_text(encoding="utf-8") for path in pathlib.Path(crates).glob("*/src/*.rt")}
+    functions = {}
+    for path, text in source.items():
+        if path.startswith("token/"):
+            functions.update(exported(text))
+    numbers = {path: constants(text) for path, text in source.items()}
+    refusals = numbers.get("fields/src/refusals.rt", {})
+    bounds, named = {}, limits(header)
+    for path, names in LIMITS.items():
+        bounds.update(renamed(numbers.get(path, {}), names))
+    return max(
+        compare("declarations", dict(declared(header)), functions),
+        compare("tags", listed(header, "UAF_TAGS"), numbers.get("fields/src/tags.rt", {})),
+        compare("statuses", listed(header, "UAF_STATUSES"), numbers.get("replies/src/status.rt", {})),
+        compare("refusals", listed(header, "UAF_REFUSALS"), {REFUSALS.get(name, name): n for name, n in refusals.items()}),
+        compare("limits", {name: named.get(name) for name in bounds}, bounds),
+    )
 
 
 if __name__ == "__main__":

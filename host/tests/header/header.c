@@ -1,5 +1,6 @@
 /* The header against the archive: each entry is called through uaf_token.h, with every parameter telling in the result, so that a parameter
- * that is missing, too many, of another width or in another place shows. Compiled as C11 and as C++17.
+ * that is missing, too many, of another width or in another place shows; and the header's constants and names against the papers. Compiled as
+ * C11 and as C++17.
  *
  * What is expected is put together here, field by field, from document 01. */
 #include <stdio.h>
@@ -290,6 +291,8 @@ static void registers(void)
     stored_record(&table, 0);
     expect(call(&command, UAF_VERIFIED, UAF_SHOWN_CONFIRMED, &none) == 0, "Register is refused");
     expect(wrote(UAF_DRAFT, &draft, &table), "Register: profile, challenge, KeyID, public key or mixed token");
+    expect(uaf_draft_key_id(response, response_length) == NULL, "a registration's draft taken for a Sign's");
+    expect(uaf_draft_key_id(NULL, 0) == NULL, "no bytes taken for a Sign's draft");
     static const uint32_t verdicts[] = {UAF_DENIED, UAF_NOT_ENROLLED, UAF_CANCELLED, UAF_NO_REPLY, UAF_LOCKED_OUT};
     static const unsigned statuses[] = {
         UAF_STATUS_ACCESS_DENIED, UAF_STATUS_USER_NOT_ENROLLED, UAF_STATUS_USER_CANCELLED, UAF_STATUS_USER_NOT_RESPONSIVE,
@@ -335,6 +338,9 @@ static void signs(void)
     stored_record(&left, 0x01020305);
     expect(call(&command, UAF_VERIFIED, UAF_SHOWN_CONFIRMED, &table) == 0, "Sign is refused");
     expect(wrote(UAF_DRAFT, &draft, &left), "Sign: nonce, hash, KeyID or count");
+    const uint8_t *chosen = uaf_draft_key_id(response, response_length);
+    expect(chosen == response + response_length - UAF_DRAFT_KEY_ID_FROM_END, "the KeyID's place in a Sign's draft");
+    expect(memcmp(chosen, key_id, sizeof key_id) == 0, "the KeyID in a Sign's draft");
     static const uint32_t results[] = {UAF_SHOWN_CANCELLED, UAF_SHOWN_NOT_RENDERED, UAF_SHOWN_NO_REPLY};
     static const unsigned statuses[] = {
         UAF_STATUS_USER_CANCELLED, UAF_STATUS_CANNOT_RENDER_TRANSACTION_CONTENT, UAF_STATUS_USER_NOT_RESPONSIVE};
@@ -389,6 +395,34 @@ static void refusals(void)
             &response_length, &table_length) == UAF_REFUSED_LENT
             && all_untouched(),
         "a short AAID");
+}
+
+/* Each stretch of uaf_command, one at a time, as NULL and 0: a good empty table, or the refusal that this length has. */
+static void empty_stretches(void)
+{
+    enum { COMMAND, AAID, METADATA, MIXED, KEY_ID, PUBLIC_KEY, NONCE, HASH, TABLE, RESPONSE, TABLE_OUT, STRETCHES_OF_COMMAND };
+    static const uint32_t refusals_of[2][STRETCHES_OF_COMMAND] = {
+        {3, 4, 4, 4, 0, 0, 4, 4, 0, 1, 1}, /* Sign */
+        {3, 4, 4, 4, 4, 4, 0, 0, 0, 1, 1}, /* Register */
+    };
+    for (int registering = 0; registering < 2; registering++) {
+        struct bytes children = {{0}, 0}, command = {{0}, 0}, table = {{0}, 0};
+        children_of(&children, registering, NULL);
+        command_of(&command, registering ? 0x3402 : 0x3403, &children);
+        stored_records(&table, 1);
+        for (int none = 0; none < STRETCHES_OF_COMMAND; none++) {
+#define LENT(which, at, size) none == which ? NULL : (at), none == which ? 0 : (size)
+            fill_outputs();
+            uint32_t refusal = uaf_command(
+                LENT(COMMAND, command.at, command.length), LENT(AAID, aaid, sizeof aaid), 1, 2, 3, LENT(METADATA, metadata, sizeof metadata), 0, 0,
+                LENT(MIXED, mixed, sizeof mixed), LENT(KEY_ID, key_id, sizeof key_id), LENT(PUBLIC_KEY, public_key, sizeof public_key),
+                LENT(NONCE, nonce, sizeof nonce), LENT(HASH, hash, sizeof hash), LENT(TABLE, table.at, table.length),
+                LENT(RESPONSE, response, sizeof response), LENT(TABLE_OUT, table_out, sizeof table_out), &answer, &response_length, &table_length);
+#undef LENT
+            expect(refusal == refusals_of[registering][none], "a command with NULL for an empty stretch");
+            expect(refusal == 0 || all_untouched(), "a refused command with NULL for an empty stretch");
+        }
+    }
 }
 
 /* ---- numbers whose low 8 or 16 bits are a good number */
@@ -515,6 +549,18 @@ static void completes(void)
             UAF_COMPLETE_REGISTRATION, draft.at, draft.length, UAF_BASIC_SURROGATE, signature, sizeof signature, NULL, 0, response,
             sizeof response, &response_length) == 0,
         "a completion without certificate");
+    fill_outputs();
+    expect(
+        uaf_complete(UAF_COMPLETE_SIGN, NULL, 0, 0, signature, sizeof signature, NULL, 0, response, sizeof response, &response_length)
+                == UAF_REFUSED_BYTES
+            && uaf_complete(
+                   UAF_COMPLETE_REGISTRATION, draft.at, draft.length, UAF_BASIC_SURROGATE, NULL, 0, NULL, 0, response, sizeof response,
+                   &response_length) == UAF_REFUSED_LENT
+            && uaf_complete(
+                   UAF_COMPLETE_REGISTRATION, draft.at, draft.length, UAF_BASIC_SURROGATE, signature, sizeof signature, NULL, 0, NULL, 0,
+                   &response_length) == UAF_REFUSED_OUTPUT
+            && all_untouched(),
+        "a completion with NULL for an empty stretch");
 }
 
 static void reads(void)
@@ -538,7 +584,8 @@ static void reads(void)
             expect(
                 tags[i] == expected_tags[i] && lengths[i] == expected_lengths[i]
                     && whole.at[places[i] - 4] + 256u * whole.at[places[i] - 3] == tags[i]
-                    && whole.at[places[i] - 2] + 256u * whole.at[places[i] - 1] == lengths[i],
+                    && whole.at[places[i] - 2] + 256u * whole.at[places[i] - 1] == lengths[i]
+                    && strcmp(uaf_tag_name(tags[i]), "unknown") != 0,
                 "a field");
         else
             expect(tags[i] == 0 && places[i] == 0 && lengths[i] == 0, "a row past the fields");
@@ -548,19 +595,171 @@ static void reads(void)
     place = 1, length = 2, tag = 3, status = 4, count = 5, tags[0] = 6, places[0] = 7, lengths[0] = 8;
     expect(uaf_signed_part(draft.at, draft.length, &place, &length) == UAF_REFUSED_BYTES && place == 1 && length == 2, "a draft alone");
     expect(
+        uaf_signed_part(NULL, 0, &place, &length) == UAF_REFUSED_BYTES && place == 1 && length == 2, "no bytes at all: the signed part");
+    expect(
         uaf_read_fields(NULL, 0, &tag, &status, &count, tags, places, lengths) == UAF_REFUSED_BYTES && tag == 3 && status == 4 && count == 5
             && tags[0] == 6 && places[0] == 7 && lengths[0] == 8,
         "no bytes at all");
 }
 
+/* ---- constants and names, with the numbers of documents 001 and 01 */
+
+struct named {
+    size_t constant;
+    size_t number;
+    const char *name;
+};
+
+#define ONE(...) +1
+#define COUNT(array) (sizeof(array) / sizeof *(array))
+
+/* Each constant has its number and that number its name, all of the header's list are here, and no other number has a name. */
+static void named_so(const struct named *rows, size_t count, size_t listed, const char *(*name_of)(size_t))
+{
+    expect(count == listed, "a list of the header has more or fewer than are checked here");
+    for (size_t i = 0; i < count; i++) {
+        expect(rows[i].constant == rows[i].number, rows[i].name);
+        expect(strcmp(name_of(rows[i].number), rows[i].name) == 0, rows[i].name);
+    }
+    size_t known = 0;
+    for (size_t n = 0; n <= 0x10000; n++)
+        known += strcmp(name_of(n), "unknown") != 0;
+    expect(known == count, "a number that has a name and should have none");
+}
+
+static const char *refusal_name(size_t n)
+{
+    return uaf_refusal_name((uint32_t)n);
+}
+
+static void constants_and_names(void)
+{
+    static const struct named refused[] = {
+        {0, 0, "none"},
+        {UAF_REFUSED_OUTPUT, 1, "an output is too short"},
+        {UAF_REFUSED_TABLE, 2, "the stored table breaks a rule"},
+        {UAF_REFUSED_COMMAND, 3, "fewer than 4 bytes, or none of the five commands"},
+        {UAF_REFUSED_LENT, 4, "a lent result that this command or completion uses has a wrong length or number"},
+        {UAF_REFUSED_BYTES, 5, "no draft of this kind, or no response"},
+    };
+    static const struct named statuses[] = {
+        {UAF_STATUS_OK, 0x00, "OK"},
+        {UAF_STATUS_ERR_UNKNOWN, 0x01, "ERR_UNKNOWN"},
+        {UAF_STATUS_ACCESS_DENIED, 0x02, "ACCESS_DENIED"},
+        {UAF_STATUS_USER_NOT_ENROLLED, 0x03, "USER_NOT_ENROLLED"},
+        {UAF_STATUS_CANNOT_RENDER_TRANSACTION_CONTENT, 0x04, "CANNOT_RENDER_TRANSACTION_CONTENT"},
+        {UAF_STATUS_USER_CANCELLED, 0x05, "USER_CANCELLED"},
+        {UAF_STATUS_CMD_NOT_SUPPORTED, 0x06, "CMD_NOT_SUPPORTED"},
+        {UAF_STATUS_ATTESTATION_NOT_SUPPORTED, 0x07, "ATTESTATION_NOT_SUPPORTED"},
+        {UAF_STATUS_PARAMS_INVALID, 0x08, "PARAMS_INVALID"},
+        {UAF_STATUS_USER_NOT_RESPONSIVE, 0x0E, "USER_NOT_RESPONSIVE"},
+        {UAF_STATUS_INSUFFICIENT_RESOURCES, 0x0F, "INSUFFICIENT_RESOURCES"},
+        {UAF_STATUS_USER_LOCKOUT, 0x10, "USER_LOCKOUT"},
+    };
+    /* in document 01's order */
+    static const struct named tags[] = {
+        {UAF_TAG_GETINFO_CMD, 0x3401, "GETINFO_CMD"},
+        {UAF_TAG_GETINFO_CMD_RESPONSE, 0x3601, "GETINFO_CMD_RESPONSE"},
+        {UAF_TAG_REGISTER_CMD, 0x3402, "REGISTER_CMD"},
+        {UAF_TAG_REGISTER_CMD_RESPONSE, 0x3602, "REGISTER_CMD_RESPONSE"},
+        {UAF_TAG_SIGN_CMD, 0x3403, "SIGN_CMD"},
+        {UAF_TAG_SIGN_CMD_RESPONSE, 0x3603, "SIGN_CMD_RESPONSE"},
+        {UAF_TAG_DEREGISTER_CMD, 0x3404, "DEREGISTER_CMD"},
+        {UAF_TAG_DEREGISTER_CMD_RESPONSE, 0x3604, "DEREGISTER_CMD_RESPONSE"},
+        {UAF_TAG_OPEN_SETTINGS_CMD, 0x3406, "OPEN_SETTINGS_CMD"},
+        {UAF_TAG_OPEN_SETTINGS_CMD_RESPONSE, 0x3606, "OPEN_SETTINGS_CMD_RESPONSE"},
+        {UAF_TAG_KEYHANDLE, 0x2801, "KEYHANDLE"},
+        {UAF_TAG_USERVERIFY_TOKEN, 0x2803, "USERVERIFY_TOKEN"},
+        {UAF_TAG_APPID, 0x2804, "APPID"},
+        {UAF_TAG_KEYHANDLE_ACCESS_TOKEN, 0x2805, "KEYHANDLE_ACCESS_TOKEN"},
+        {UAF_TAG_USERNAME, 0x2806, "USERNAME"},
+        {UAF_TAG_ATTESTATION_TYPE, 0x2807, "ATTESTATION_TYPE"},
+        {UAF_TAG_STATUS_CODE, 0x2808, "STATUS_CODE"},
+        {UAF_TAG_METADATA, 0x2809, "METADATA"},
+        {UAF_TAG_ASSERTION_SCHEME, 0x280A, "ASSERTION_SCHEME"},
+        {UAF_TAG_TC_DISPLAY_CONTENT_TYPE, 0x280C, "TC_DISPLAY_CONTENT_TYPE"},
+        {UAF_TAG_AUTHENTICATOR_INDEX, 0x280D, "AUTHENTICATOR_INDEX"},
+        {UAF_TAG_API_VERSION, 0x280E, "API_VERSION"},
+        {UAF_TAG_AUTHENTICATOR_ASSERTION, 0x280F, "AUTHENTICATOR_ASSERTION"},
+        {UAF_TAG_TRANSACTION_CONTENT, 0x2810, "TRANSACTION_CONTENT"},
+        {UAF_TAG_USERNAME_AND_KEYHANDLE, 0x3802, "USERNAME_AND_KEYHANDLE"},
+        {UAF_TAG_AUTHENTICATOR_INFO, 0x3811, "AUTHENTICATOR_INFO"},
+        {UAF_TAG_REG_ASSERTION, 0x3E01, "REG_ASSERTION"},
+        {UAF_TAG_AUTH_ASSERTION, 0x3E02, "AUTH_ASSERTION"},
+        {UAF_TAG_KRD, 0x3E03, "KRD"},
+        {UAF_TAG_SIGNED_DATA, 0x3E04, "SIGNED_DATA"},
+        {UAF_TAG_CERT, 0x2E05, "CERT"},
+        {UAF_TAG_SIGNATURE, 0x2E06, "SIGNATURE"},
+        {UAF_TAG_BASIC_FULL, 0x3E07, "BASIC_FULL"},
+        {UAF_TAG_BASIC_SURROGATE, 0x3E08, "BASIC_SURROGATE"},
+        {UAF_TAG_KEYID, 0x2E09, "KEYID"},
+        {UAF_TAG_FINAL_CHALLENGE_HASH, 0x2E0A, "FINAL_CHALLENGE_HASH"},
+        {UAF_TAG_AAID, 0x2E0B, "AAID"},
+        {UAF_TAG_PUB_KEY, 0x2E0C, "PUB_KEY"},
+        {UAF_TAG_COUNTERS, 0x2E0D, "COUNTERS"},
+        {UAF_TAG_ASSERTION_INFO, 0x2E0E, "ASSERTION_INFO"},
+        {UAF_TAG_NONCE, 0x2E0F, "NONCE"},
+        {UAF_TAG_TRANSACTION_CONTENT_HASH, 0x2E10, "TRANSACTION_CONTENT_HASH"},
+    };
+    named_so(refused, COUNT(refused), 1 UAF_REFUSALS(ONE), refusal_name);
+    named_so(statuses, COUNT(statuses), 0 UAF_STATUSES(ONE), uaf_status_name);
+    named_so(tags, COUNT(tags), 0 UAF_TAGS(ONE), uaf_tag_name);
+
+    static const struct named limits[] = {
+        {UAF_LEAST_RESPONSE, 4096, "response output"},
+        {UAF_LEAST_TABLE, 6912, "table output"},
+        {UAF_MOST_COMMAND, 8192, "command"},
+        {UAF_MOST_RECORDS, 32, "records"},
+        {UAF_MOST_OWN, 8, "own records"},
+        {UAF_MOST_HANDLES, 8, "key handles"},
+        {UAF_AAID_SIZE, 9, "AAID"},
+        {UAF_METADATA_SIZE, 15, "metadata"},
+        {UAF_MIXED_SIZE, 32, "mixed token"},
+        {UAF_KEY_ID_SIZE, 32, "KeyID"},
+        {UAF_HASH_SIZE, 32, "transaction hash"},
+        {UAF_LEAST_NONCE, 8, "least nonce"},
+        {UAF_MOST_NONCE, 32, "nonce"},
+        {UAF_MOST_PUBLIC_KEY, 512, "public key"},
+        {UAF_MOST_SIGNATURE, 512, "signature"},
+        {UAF_MOST_CERTIFICATE, 2048, "certificate"},
+        {UAF_MOST_APP_ID, 512, "AppID"},
+        {UAF_MOST_CHALLENGE, 32, "challenge hash"},
+        {UAF_MOST_USERNAME, 128, "username"},
+        {UAF_MOST_ACCESS_TOKEN, 32, "access token"},
+        {UAF_MOST_FIELDS, 17, "fields"},
+        {UAF_VERIFIED, 0, "verified"},
+        {UAF_DENIED, 1, "denied"},
+        {UAF_NOT_ENROLLED, 2, "not enrolled"},
+        {UAF_CANCELLED, 3, "cancelled"},
+        {UAF_NO_REPLY, 4, "no reply"},
+        {UAF_LOCKED_OUT, 5, "locked out"},
+        {UAF_SHOWN_CONFIRMED, 0, "display: confirmed"},
+        {UAF_SHOWN_CANCELLED, 1, "display: cancelled"},
+        {UAF_SHOWN_NOT_RENDERED, 2, "display: cannot render"},
+        {UAF_SHOWN_NO_REPLY, 3, "display: no reply"},
+        {UAF_COMPLETE_REGISTRATION, 0, "a registration's completion"},
+        {UAF_COMPLETE_SIGN, 1, "a sign's completion"},
+        {UAF_BASIC_FULL, 0x3E07, "full attestation"},
+        {UAF_BASIC_SURROGATE, 0x3E08, "surrogate attestation"},
+    };
+    for (size_t i = 0; i < COUNT(limits); i++)
+        expect(limits[i].constant == limits[i].number, limits[i].name);
+
+    char version[32];
+    snprintf(version, sizeof version, "%d.%d", UAF_TOKEN_MAJOR, UAF_TOKEN_MINOR);
+    expect(strcmp(version, UAF_TOKEN_VERSION) == 0, "the version's numbers and its text");
+}
+
 int main(void)
 {
+    constants_and_names();
     lend_all();
     get_info();
     registers();
     signs();
     deregisters_and_settings();
     refusals();
+    empty_stretches();
     numbers_lent();
     completes();
     reads();

@@ -1,6 +1,6 @@
 """What docs/MAP.md names is there: named.py REPOSITORY
 
-Every name in backticks in the tables of docs/MAP.md must stand in the project: a definition, law, constructor or field of specs/ or proofs/, a function,
+Every name in backticks in the tables and the headed paragraphs of docs/MAP.md must stand in the project: a definition, law, constructor or field of specs/ or proofs/, a function,
 type, variant, field, constant or module of src/, a crate, a path; after "must-fail" an edit. A term's words are names, but for its single letters and
 its numbers. Names and a place in brackets behind them, as "`several`, `names` (EdgesSign)", must stand in that very place:
 
@@ -10,8 +10,10 @@ its numbers. Names and a place in brackets behind them, as "`several`, `names` (
     (crate::module)  that file of its src/
 
 Brackets behind a name hold a place, or names that stand in the same file as that name, or both with a semicolon between. A name without a place
-in a column "Definition" is one of model's specs/."""
+in a column "Definition" is one of model's specs/. A headed paragraph is a row with long cells: its head in bold, then for each column an item
+"- Column: text", which may go on in indented lines."""
 
+import itertools
 import pathlib
 import re
 import sys
@@ -109,10 +111,9 @@ def check(cell, column, project):
     return named, missing
 
 
-def main(root):
-    project = Project(pathlib.Path(root).resolve())
-    rows, named, wrong, heads = 0, 0, [], []
-    lines = (project.root / "docs/MAP.md").read_text(encoding="utf-8").splitlines()
+def table_rows(lines):
+    """The rows of the tables: number of the line, and each cell with its column."""
+    heads = []
     for number, line in enumerate(lines, 1):
         if not line.startswith("|"):
             heads = []
@@ -121,12 +122,40 @@ def main(root):
         if not heads:
             heads = cells
         elif not all(set(cell) <= {"-"} for cell in cells):
-            rows += 1
-            for column, cell in zip(heads, cells):
-                names, missing = check(cell, column, project)
-                named += len(names)
-                wrong += [(number, cells[0], name) for name in missing]
-    print(f"map: {rows} rows, {named} names, {len(wrong)} missing")
+            yield number, list(zip(heads, cells, strict=True))
+
+
+def headed_paragraphs(lines):
+    """The same of the headed paragraphs: the lines between two empty ones that begin in bold, and the items of those that follow."""
+    found, within = [], False
+    for filled, block in itertools.groupby(enumerate(lines, 1), key=lambda line: line[1] != ""):
+        if not filled:
+            continue
+        (number, first), *rest = block
+        text = "\n".join([first, *(line.strip() if line.startswith("  ") else line for _, line in rest)])
+        if first.startswith("**"):
+            found.append((number, [("", text.replace("\n", " "))]))
+            within = True
+        elif within and first.startswith("- "):
+            for item in text[2:].split("\n- "):
+                column, _, cell = item.replace("\n", " ").partition(": ")
+                found[-1][1].append((column, cell) if cell else ("", item))
+        else:
+            within = False
+    return found
+
+
+def main(root):
+    project = Project(pathlib.Path(root).resolve())
+    lines = (project.root / "docs/MAP.md").read_text(encoding="utf-8").splitlines()
+    rows, paragraphs = list(table_rows(lines)), headed_paragraphs(lines)
+    named, wrong = 0, []
+    for number, cells in sorted(rows + paragraphs):
+        for column, cell in cells:
+            names, missing = check(cell, column, project)
+            named += len(names)
+            wrong += [(number, cells[0][1], name) for name in missing]
+    print(f"map: {len(rows)} rows, {len(paragraphs)} headed paragraphs, {named} names, {len(wrong)} missing")
     for number, row, name in wrong:
         print(f"  line {number}: {name}: {row}")
     return 1 if wrong or not rows else 0

@@ -1,0 +1,106 @@
+/* A seller registers and signs in: the calls of the token that this takes, without a terminal around them. README.md quotes the function
+ * `answer`, and host/tests/run holds the quotation against this file and runs it.
+ *
+ * What hardware works out stands here as fixed bytes; host/demo is the same with keys, hashes, signatures and files. */
+#include <stdio.h>
+#include <stdlib.h>
+#include <string.h>
+
+#include "uaf_token.h"
+
+/* A 16-bit number, little-endian, as two bytes. */
+#define LE(n) (n) & 0xFF, (n) >> 8
+
+/* The commands, as they reach the port. Each TLV is a tag, a length and a value. */
+static const uint8_t register_command[] = {
+    LE(UAF_TAG_REGISTER_CMD), LE(28),
+    LE(UAF_TAG_AUTHENTICATOR_INDEX), LE(1), 0,
+    LE(UAF_TAG_FINAL_CHALLENGE_HASH), LE(1), 0xC1,
+    LE(UAF_TAG_USERNAME), LE(3), 'A', 'n', 'n',
+    LE(UAF_TAG_ATTESTATION_TYPE), LE(2), LE(UAF_BASIC_SURROGATE),
+    LE(UAF_TAG_KEYHANDLE_ACCESS_TOKEN), LE(1), 0xAA,
+};
+static const uint8_t sign_command[] = {
+    LE(UAF_TAG_SIGN_CMD), LE(15),
+    LE(UAF_TAG_AUTHENTICATOR_INDEX), LE(1), 0,
+    LE(UAF_TAG_FINAL_CHALLENGE_HASH), LE(1), 0xC2,
+    LE(UAF_TAG_KEYHANDLE_ACCESS_TOKEN), LE(1), 0xAA,
+};
+
+/* What the firmware lends: the profile, the hash of access token and AppID, a new KeyID with its public key, a nonce, a hash of content. */
+enum { VERSION = 1, ECDSA_SHA256_DER = 0x0002, ECC_X962_DER = 0x0101 };
+static const uint8_t aaid[UAF_AAID_SIZE] = {'4', 'A', '4', 'F', '#', '0', '0', '0', '1'}, metadata[UAF_METADATA_SIZE] = {0},
+                     mixed[UAF_MIXED_SIZE] = {0x11}, key_id[UAF_KEY_ID_SIZE] = {0x22}, public_key[] = {0x33},
+                     nonce[UAF_LEAST_NONCE] = {0x44}, hash[UAF_HASH_SIZE] = {0x55};
+
+/* The table in its stored form; no bytes are the table without records. */
+static uint8_t table[UAF_LEAST_TABLE];
+static size_t table_size;
+
+/* Stands for a write into lasting storage. */
+static void keep_table(const uint8_t *left, size_t size)
+{
+    memcpy(table, left, size);
+    table_size = size;
+}
+
+/* Stands for a signature over the draft by the private key of this KeyID. */
+static size_t sign_draft(const uint8_t *whose, const uint8_t *draft, size_t size, uint8_t *signature)
+{
+    signature[0] = (uint8_t)(whose[0] ^ draft[size - 1]);
+    return 1;
+}
+
+static void stop_if(uint32_t refusal)
+{
+    if (refusal != 0) {
+        fprintf(stderr, "refusal %u: %s\n", (unsigned)refusal, uaf_refusal_name(refusal));
+        exit(EXIT_FAILURE);
+    }
+}
+
+/* Runs a command to its response, and gives its length. */
+static size_t answer(const uint8_t *command, size_t size, uint8_t response[UAF_LEAST_RESPONSE])
+{
+    uint8_t draft[UAF_LEAST_RESPONSE], left[UAF_LEAST_TABLE], signature[UAF_MOST_SIGNATURE];
+    uint32_t kind;
+    size_t length, left_size;
+    stop_if(uaf_command(
+        command, size, aaid, sizeof aaid, VERSION, ECDSA_SHA256_DER, ECC_X962_DER, metadata, sizeof metadata,
+        UAF_VERIFIED, UAF_SHOWN_CONFIRMED, mixed, sizeof mixed, key_id, sizeof key_id, public_key, sizeof public_key,
+        nonce, sizeof nonce, hash, sizeof hash, table, table_size, draft, sizeof draft, left, sizeof left,
+        &kind, &length, &left_size));
+    keep_table(left, left_size); /* before anything is signed: no count is used twice */
+    if (kind == UAF_RESPONSE) {
+        memcpy(response, draft, length);
+        return length;
+    }
+    const uint8_t *chosen = uaf_draft_key_id(draft, length); /* NULL for a registration, whose KeyID was lent */
+    size_t signature_size = sign_draft(chosen != NULL ? chosen : key_id, draft, length, signature);
+    stop_if(uaf_complete(
+        chosen != NULL ? UAF_COMPLETE_SIGN : UAF_COMPLETE_REGISTRATION, draft, length, UAF_BASIC_SURROGATE,
+        signature, signature_size, NULL, 0, response, UAF_LEAST_RESPONSE, &length));
+    return length;
+}
+
+/* Each field of a response by its name. */
+static void show(const uint8_t *response, size_t size)
+{
+    size_t tag, status, count, tags[UAF_MOST_FIELDS], places[UAF_MOST_FIELDS], lengths[UAF_MOST_FIELDS];
+    stop_if(uaf_read_fields(response, size, &tag, &status, &count, tags, places, lengths));
+    printf("%s: %s\n", uaf_tag_name(tag), uaf_status_name(status));
+    for (size_t i = 0; i < count; i++) {
+        printf("  %-25s", uaf_tag_name(tags[i]));
+        for (size_t k = 0; k < lengths[i]; k++)
+            printf("%02x", response[places[i] + k]);
+        printf("\n");
+    }
+}
+
+int main(void)
+{
+    uint8_t response[UAF_LEAST_RESPONSE];
+    show(response, answer(register_command, sizeof register_command, response));
+    show(response, answer(sign_command, sizeof sign_command, response));
+    return 0;
+}
