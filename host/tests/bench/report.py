@@ -1,14 +1,22 @@
-"""The benchmark's report in Markdown: times and their ratio, instructions by callgrind, stack, and the size of the archive's text.
+"""The benchmark's report in Markdown.
 
-    report.py BENCH ARCHIVE [OUTPUT]
+    report.py BENCH ARCHIVE [OUTPUT [ROWS]]
 
-Times are medians of batches that take turns. Callgrind counts a run of one call and one of two; their difference is a call in the steady
-state."""
+OUTPUT gets what is printed, ROWS a row for every case. Times are those that BENCH prints. Instructions are callgrind's, of the second of two calls:
+those of the entry and of all that it calls."""
 
+import csv
 import re
 import subprocess
 import sys
 import tempfile
+
+SIDES = {"token": "uaf_", "peer": "peer_"}
+ENTRIES = ("command", "complete", "signed_part", "read_fields")
+# How the name of a case ends that is a command on a table, and what heads the column of that kind.
+KINDS = {"": "random, 12", ", long names": "random, 128", ", alike": "alike, 12", ", alike, long names": "alike, 128"}
+ON_TABLE = re.compile(rf"(.*), (\d+) records?({'|'.join(KINDS)})$")
+FIGURES = ["token ns", "peer ns", "token / peer", "floor ns", "token instructions", "peer instructions"]
 
 
 def lines(*command):
@@ -16,63 +24,143 @@ def lines(*command):
 
 
 def table(bench, *arguments):
-    """The rows that the benchmark prints, without its head."""
-    return [[cell.strip() for cell in line.split("|")] for line in lines(bench, *arguments)[1:]]
+    return list(csv.DictReader(lines(bench, *arguments), delimiter="\t"))
 
 
-def collected(bench, number, whose, times):
-    with tempfile.NamedTemporaryFile() as out:
-        said = subprocess.run(
-            ["valgrind", "--tool=callgrind", f"--callgrind-out-file={out.name}", "--toggle-collect=one_call", bench, "once", str(number), whose, str(times)],
-            check=True,
-            capture_output=True,
-            text=True,
-        ).stderr
-    return int(re.search(r"Collected : (\d+)", said).group(1))
+def instructions(bench, side):
+    """The count of every case. Callgrind writes a part each time that `counted` is left, which is twice for a case, and one at the end."""
+    entries = [f"--toggle-collect={SIDES[side]}{entry}" for entry in ENTRIES]
+    with tempfile.NamedTemporaryFile("r") as out:
+        parts = [f"--callgrind-out-file={out.name}", "--combine-dumps=yes", "--dump-after=counted"]
+        lines("valgrind", "-q", "--tool=callgrind", *parts, *entries, bench, "calls", side)
+        totals = re.findall(r"^totals: (\d+)", out.read(), re.MULTILINE)
+    return [int(total) for total in totals[1:-1:2]]
 
 
-def instructions(bench, number, whose):
-    return collected(bench, number, whose, 2) - collected(bench, number, whose, 1)
+class Row:
+    """What was measured of a case."""
+
+    def __init__(self, times, *counts):
+        self.case = times["case"]
+        self.ns = {side: float(times[f"{side} ns"]) for side in SIDES}
+        self.ratio = float(times["token / peer"])
+        self.floor = times["floor ns"]
+        self.instructions = dict(zip(SIDES, counts))
+        self.on_table = ON_TABLE.match(self.case)
+
+    def is_command(self):
+        return self.on_table is not None or self.case.startswith("refused:")
+
+    def figures(self):
+        floor = nanoseconds(self.floor) if self.floor else "–"
+        counts = [f"{count:,}" for count in self.instructions.values()]
+        return [*map(nanoseconds, self.ns.values()), f"{self.ratio:.2f}", floor, *counts]
+
+
+def nanoseconds(time):
+    time = float(time)
+    return f"{time:,.0f}" if time >= 10 else f"{time:.1f}"
+
+
+def measured(bench):
+    times = table(bench)
+    counts = [instructions(bench, side) for side in SIDES]
+    if any(len(count) != len(times) for count in counts):
+        sys.exit("callgrind's parts are not two to a case")
+    return [Row(*figures) for figures in zip(times, *counts)]
+
+
+def markdown(head, rows):
+    for cells in (head, ["---"] * len(head), *rows):
+        yield "| " + " | ".join(cells) + " |"
+
+
+def listed(rows):
+    return markdown(["case", *FIGURES], [[row.case, *row.figures()] for row in rows])
+
+
+def commands(rows):
+    """A line for a command and a number of records: all figures of the first kind of table, and the ratio of the others."""
+    sizes = {}
+    for row in rows:
+        if row.on_table:
+            command, records, kind = row.on_table.groups()
+            sizes.setdefault((command, records), {})[kind] = row
+    first, *others = KINDS
+    cells = [
+        [*size, *kinds[first].figures(), *(f"{kinds[kind].ratio:.2f}" if kind in kinds else "" for kind in others)]
+        for size, kinds in sizes.items()
+    ]
+    return markdown(["command", "records", *FIGURES, *(KINDS[kind] for kind in others)], cells)
+
+
+def alike(rows):
+    """How much more a case takes where KeyIDs and mixed tokens are alike than where they are random."""
+    by_name = {row.case: row for row in rows}
+    pairs = [(row, by_name[row.case.replace(", alike", "")]) for row in rows if ", alike" in row.case]
+    cells = []
+    for side in SIDES:
+        for unit in ("ns", "instructions"):
+            ratios = [(getattr(one, unit)[side] / getattr(other, unit)[side], one.case) for one, other in pairs]
+            most, case = max(ratios)
+            cells.append([f"{side}, {unit}", f"{most:.2f}", case])
+    return markdown(["alike / random", "at most", "case"], cells)
+
+
+def stack(bench, rows):
+    depths = list(zip(rows, table(bench, "stack")))
+    cells = []
+    for name, is_meant in (("a command, at most", True), ("completion and reader, at most", False)):
+        meant = [depth for row, depth in depths if row.is_command() == is_meant]
+        cells.append([name, *(f"{max(int(depth[f'{side} bytes']) for depth in meant):,}" for side in SIDES)])
+    return markdown(["stack, bytes", *SIDES], cells)
+
+
+def machine():
+    with open("/proc/cpuinfo", encoding="utf-8") as processors:
+        model = re.search(r"^model name\s*: (.*)", processors.read(), re.MULTILINE)
+    return f"Processor: {model.group(1) if model else 'unknown'}. The peer's compiler: {lines('rustc', '--version')[0]}."
 
 
 def text_size(archive):
     return sum(int(line.split()[0]) for line in lines("size", archive)[1:])
 
 
-def report(bench, archive):
-    times = table(bench)
-    yield "| case | token ns | peer ns | token / peer | token instructions | peer instructions |"
-    yield "|---|---|---|---|---|---|"
-    worst = 0.0
-    for number, (case, token, peer, ratio) in enumerate(times):
-        counts = [instructions(bench, number, whose) for whose in ("token", "peer")]
-        if is_command(case):
-            worst = max(worst, float(ratio))
-        yield f"| {case} | {token} | {peer} | {ratio} | {counts[0]:,} | {counts[1]:,} |"
+def report(bench, archive, rows):
+    yield machine()
     yield ""
-    yield f"The worst ratio of a command is {worst:.2f}."
+    yield "Commands, with KeyIDs and mixed tokens that are random and names of 12 bytes; in the last columns the ratio where they are otherwise:"
     yield ""
-    depths = table(bench, "stack")
-    most = [max(int(row[column]) for row in depths if kind(row[0])) for column in (1, 2) for kind in (is_command, is_other)]
-    yield "| stack, bytes | token | peer |"
-    yield "|---|---|---|"
-    yield f"| a command, at most | {most[0]:,} | {most[2]:,} |"
-    yield f"| completion and reader, at most | {most[1]:,} | {most[3]:,} |"
+    yield from commands(rows)
+    yield ""
+    yield "Refused commands, completion and reader:"
+    yield ""
+    yield from listed([row for row in rows if not row.on_table])
+    yield ""
+    yield from alike(rows)
+    yield ""
+    yield from stack(bench, rows)
     yield ""
     yield f"Text of the archive: {text_size(archive):,} bytes."
+    yield ""
+    worst = max(rows, key=lambda row: row.ratio)
+    yield f"Worst ratio: {worst.ratio:.2f} ({worst.case})."
 
 
-def is_command(case):
-    return not is_other(case)
+def write(name, text):
+    with open(name, "w", encoding="utf-8") as out:
+        out.write(text + "\n")
 
 
-def is_other(case):
-    return case.startswith(("complete:", "signed part:", "fields:"))
+def main(bench, archive, output=None, every=None):
+    rows = measured(bench)
+    text = "\n".join(report(bench, archive, rows))
+    if output:
+        write(output, text)
+    if every:
+        write(every, "\n".join(listed(rows)))
+    print(text)
 
 
 if __name__ == "__main__":
-    text = "\n".join(report(sys.argv[1], sys.argv[2])) + "\n"
-    if len(sys.argv) > 3:
-        with open(sys.argv[3], "w", encoding="utf-8") as out:
-            out.write(text)
-    print(text, end="")
+    main(*sys.argv[1:])

@@ -1,5 +1,5 @@
-//! The independent implementation behind the token's C interface, so that a fuzz target can call both
-//! alike. A refusal leaves the lent numbers as they are.
+//! The independent implementation behind the token's C interface, so that a fuzz target and the
+//! benchmark can call both alike. A refusal leaves the lent numbers as they are.
 
 use core::slice;
 use uaf_peer::{Answer, Lent, Profile, Refusal, MOST_FIELDS};
@@ -148,13 +148,15 @@ pub unsafe extern "C" fn peer_read_fields(
     places: *mut [usize; MOST_FIELDS],
     lengths: *mut [usize; MOST_FIELDS],
 ) -> u32 {
-    let result = uaf_peer::read_fields(slice::from_raw_parts(response, response_size));
-    number(result, |read| {
-        *tag = read.tag.into();
-        *status = read.status.into();
-        *count = read.count;
-        *tags = read.fields.map(|field| field.tag.into());
-        *places = read.fields.map(|field| field.place);
-        *lengths = read.fields.map(|field| field.length);
+    let result = uaf_peer::read_rows(
+        slice::from_raw_parts(response, response_size),
+        &mut *tags,
+        &mut *places,
+        &mut *lengths,
+    );
+    number(result, |heading| {
+        *tag = heading.tag.into();
+        *status = heading.status.into();
+        *count = heading.count;
     })
 }

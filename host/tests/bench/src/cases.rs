@@ -1,249 +1,313 @@
-//! What is measured: each command on an empty, a half-full and a full table, each completion, and both calls of the reader.
+//! What is measured: each command on tables of five sizes and four kinds, each completion, both calls of the reader, and some refusals of each.
 
-use crate::data::{command, key_id, mixed, noise, table};
-use uaf_peer::{Lent, Profile};
-
-/// A call of one of the four entries, with all that it is lent.
-pub enum Call {
-    Command {
-        command: Vec<u8>,
-        mixed: Vec<u8>,
-        key_id: Vec<u8>,
-        table: Vec<u8>,
-    },
-    Complete {
-        kind: u32,
-        draft: Vec<u8>,
-        attestation: u32,
-        certificate: Vec<u8>,
-    },
-    SignedPart(Vec<u8>),
-    ReadFields(Vec<u8>),
-}
+use crate::calls::{repeat, Call, Command, Complete, Desk, Outputs, LEAST_TABLE};
+use crate::data::{command, noise, Ids, Setting};
+use crate::entries::{peer, token};
+use crate::placed::{Placed, Role};
 
 pub struct Case {
     pub name: String,
     pub call: Call,
+    /// 0, or the number of the refusal that it meets.
+    pub refusal: u32,
 }
 
-/// What every call is lent alike.
-pub struct Desk {
-    aaid: Vec<u8>,
-    metadata: Vec<u8>,
-    public_key: Vec<u8>,
-    nonce: Vec<u8>,
-    hash: Vec<u8>,
-    pub signature: Vec<u8>,
-}
-
-impl Desk {
-    pub fn new() -> Self {
-        Desk {
-            aaid: b"4A4F#0001".to_vec(),
-            metadata: noise(15, 1),
-            public_key: noise(91, 2),
-            nonce: noise(16, 3),
-            hash: noise(32, 4),
-            signature: noise(71, 5),
-        }
-    }
-
-    pub fn lent<'a>(&'a self, mixed: &'a [u8], key_id: &'a [u8]) -> Lent<'a> {
-        Lent {
-            profile: Profile {
-                aaid: &self.aaid,
-                version: 1,
-                signature_algorithm: 2,
-                key_algorithm: 0x101,
-                metadata: &self.metadata,
-            },
-            verdict: 0,
-            display: 0,
-            mixed,
-            key_id,
-            public_key: &self.public_key,
-            nonce: &self.nonce,
-            hash: &self.hash,
-        }
-    }
-}
+const OUTPUT: u32 = 1;
+const TABLE: u32 = 2;
+const BYTES: u32 = 5;
 
 /// A holder without records: the four of a full table are 0 to 3.
 const NEWCOMER: usize = 9;
 /// A KeyID that no table has.
 const UNUSED: usize = 99;
 
+const SHORT: usize = 12;
+const LONG: usize = 128;
+
 const INDEX: (u16, &[u8]) = (0x280D, &[0]);
 const APP_ID: (u16, &[u8]) = (0x2804, b"https://tote.example/facets.json");
 const ACCESS_TOKEN: (u16, &[u8]) = (0x2805, b"0123456789abcdef0123456789abcdef");
-const CHALLENGE: (u16, &[u8]) = (0x2E0A, b"a challenge hash of 32 bytes in all");
-const NAME: (u16, &[u8]) = (0x2806, b"Ann of gate 4");
+const CHALLENGE: (u16, &[u8]) = (0x2E0A, b"a challenge hash: 32 bytes in it");
 const FULL: (u16, &[u8]) = (0x2807, &[0x07, 0x3E]);
 const CONTENT: (u16, &[u8]) = (
     0x2810,
     b"Race 4, place, 3 runners share: 7.40 / 2.10 / 2.10",
 );
 
-fn challenge() -> (u16, &'static [u8]) {
-    (CHALLENGE.0, &CHALLENGE.1[..32])
-}
+/// The commands, as they are numbered here.
+const GET_INFO: usize = 0;
+const REGISTER: usize = 1;
+const SIGN: usize = 2;
+const SIGN_ONE: usize = 3;
+const SIGN_CONTENT: usize = 4;
+const DEREGISTER_ONE: usize = 5;
+const DEREGISTER_ALL: usize = 6;
+const NAMES: [&str; 8] = [
+    "GetInfo",
+    "Register",
+    "Sign, no handle",
+    "Sign, one handle",
+    "Sign, one handle, content",
+    "Deregister one",
+    "Deregister all",
+    "Open settings",
+];
 
-/// The commands, and whose they are: the first holder's, or a newcomer's for a Register.
-fn commands() -> Vec<(&'static str, Vec<u8>, usize)> {
-    let (first, third) = (key_id(0), key_id(2));
-    let sign = [INDEX, APP_ID, challenge(), ACCESS_TOKEN];
+fn command_bytes(which: usize, setting: &Setting) -> Vec<u8> {
+    // The third record's, or the last one's before it.
+    let handle = setting.ids.key_id(setting.records.clamp(1, 3) - 1);
+    let first = setting.ids.key_id(0);
+    let name = setting.name(UNUSED);
+    let sign = |more: &[(u16, &[u8])]| {
+        let children = [&[INDEX, APP_ID, CHALLENGE, ACCESS_TOKEN], more].concat();
+        command(0x3403, &children)
+    };
     let deregister = |key: &[u8]| command(0x3404, &[INDEX, APP_ID, (0x2E09, key), ACCESS_TOKEN]);
+    match which {
+        GET_INFO => command(0x3401, &[]),
+        REGISTER => {
+            let name = (0x2806, name.as_slice());
+            let children = [INDEX, APP_ID, CHALLENGE, name, FULL, ACCESS_TOKEN];
+            command(0x3402, &children)
+        }
+        SIGN => sign(&[]),
+        SIGN_ONE => sign(&[(0x2801, &handle)]),
+        SIGN_CONTENT => sign(&[CONTENT, (0x2801, &handle)]),
+        DEREGISTER_ONE => deregister(&first),
+        DEREGISTER_ALL => deregister(&[]),
+        _ => command(0x3406, &[INDEX]),
+    }
+}
+
+/// A command of the first holder's, a Register of a newcomer's.
+fn command_call(which: usize, setting: &Setting) -> Command {
+    let holder = if which == REGISTER { NEWCOMER } else { 0 };
+    Command {
+        command: Placed::new(&command_bytes(which, setting), Role::Command),
+        mixed: Placed::new(&setting.ids.mixed(holder), Role::Mixed),
+        key_id: Placed::new(&setting.ids.key_id(UNUSED), Role::KeyId),
+        table: Placed::new(&setting.table(), Role::Table),
+        room: LEAST_TABLE,
+    }
+}
+
+fn served(name: String, call: Call) -> Case {
+    Case {
+        name,
+        call,
+        refusal: 0,
+    }
+}
+
+fn refused(name: String, call: Call, refusal: u32) -> Case {
+    Case {
+        name,
+        call,
+        refusal,
+    }
+}
+
+/// The tables, and how the name of a case says it. On an empty one nothing can be alike or long.
+fn settings() -> Vec<(String, Setting)> {
+    let mut settings = vec![("0 records".to_string(), Setting::new(0, Ids::Random, SHORT))];
+    for records in [1, 8, 16, 32] {
+        let kinds = [
+            ("", Ids::Random, SHORT),
+            (", long names", Ids::Random, LONG),
+            (", alike", Ids::Alike, SHORT),
+            (", alike, long names", Ids::Alike, LONG),
+        ];
+        for (kind, ids, name_length) in kinds {
+            let plural = if records == 1 { "" } else { "s" };
+            let said = format!("{} record{}{}", records, plural, kind);
+            settings.push((said, Setting::new(records, ids, name_length)));
+        }
+    }
+    settings
+}
+
+fn commands() -> Vec<Case> {
+    let mut cases = Vec::new();
+    for (which, name) in NAMES.iter().enumerate() {
+        for (said, setting) in settings() {
+            let call = Call::Command(command_call(which, &setting));
+            cases.push(served(format!("{}, {}", name, said), call));
+        }
+    }
+    cases
+}
+
+/// A table that is wrong only at the end of its last record, and one byte too little room for it.
+fn refused_commands() -> Vec<Case> {
+    let full = Setting::new(32, Ids::Random, SHORT);
+    let mut broken = command_call(SIGN_ONE, &full);
+    let last_tag = broken.table.len() - 8;
+    broken.table[last_tag] ^= 1;
+    let mut short = command_call(SIGN_ONE, &full);
+    short.room = LEAST_TABLE - 1;
+    let name = |what: &str| format!("refused: {}", what);
     vec![
-        ("GetInfo", command(0x3401, &[]), 0),
-        (
-            "Register",
-            command(
-                0x3402,
-                &[INDEX, APP_ID, challenge(), NAME, FULL, ACCESS_TOKEN],
-            ),
-            NEWCOMER,
+        refused(
+            name("the last of 32 records broken"),
+            Call::Command(broken),
+            TABLE,
         ),
-        ("Sign, no handle", command(0x3403, &sign), 0),
-        (
-            "Sign, one handle",
-            command(0x3403, &[&sign[..], &[(0x2801, &third)]].concat()),
-            0,
+        refused(
+            name("an output one byte too short"),
+            Call::Command(short),
+            OUTPUT,
         ),
-        (
-            "Sign, one handle, content",
-            command(0x3403, &[&sign[..], &[CONTENT, (0x2801, &third)]].concat()),
-            0,
-        ),
-        ("Deregister one", deregister(&first), 0),
-        ("Deregister all", deregister(&[]), 0),
-        ("Open settings", command(0x3406, &[INDEX]), 0),
     ]
 }
 
-fn on_tables(cases: &mut Vec<Case>) {
-    for (records, filled) in [(0, "empty"), (16, "half full"), (32, "full")] {
-        for (name, command, holder) in commands() {
-            cases.push(Case {
-                name: format!("{}, {}", name, filled),
-                call: Call::Command {
-                    command,
-                    mixed: mixed(holder),
-                    key_id: key_id(UNUSED),
-                    table: table(records),
-                },
-            });
-        }
-    }
+/// What the peer writes as the response to a call.
+fn answer(desk: &Desk, call: &Call) -> Vec<u8> {
+    let mut out = Outputs::new();
+    assert_eq!(repeat(&peer(), desk, call, &mut out, 1), 0);
+    out.response[..out.response_length].to_vec()
 }
 
-/// What the peer answers to one of the commands, on a table of so many records.
-fn answer(desk: &Desk, which: usize, records: usize) -> Vec<u8> {
-    let (_, command, holder) = commands().swap_remove(which);
-    let (mixed, key_id) = (mixed(holder), key_id(UNUSED));
-    let (mut response, mut table_out) = (vec![0; 4096], vec![0; 6912]);
-    let lent = desk.lent(&mixed, &key_id);
-    let served = uaf_peer::command(
-        &command,
-        &lent,
-        &table(records),
-        &mut response,
-        &mut table_out,
-    );
-    let length = match served.expect("a command that is served").answer {
-        uaf_peer::Answer::Response(length) | uaf_peer::Answer::Draft(length) => length,
-    };
-    response.truncate(length);
-    response
+fn answer_to(desk: &Desk, which: usize, setting: &Setting) -> Vec<u8> {
+    answer(desk, &Call::Command(command_call(which, setting)))
 }
 
-fn completed(desk: &Desk, call: &Call) -> Vec<u8> {
-    let mut response = vec![0; 4096];
-    match call {
-        Call::Complete {
-            kind,
-            draft,
-            attestation,
-            certificate,
-        } => {
-            let length = uaf_peer::complete(
-                *kind,
-                draft,
-                *attestation,
-                &desk.signature,
-                certificate,
-                &mut response,
-            );
-            response.truncate(length.expect("a draft that is completed"));
-            response
-        }
-        _ => unreachable!("only completions are completed"),
-    }
+fn complete(kind: u32, draft: &[u8], attestation: u32, certificate: &[u8]) -> Call {
+    Call::Complete(Complete {
+        kind,
+        draft: Placed::new(draft, Role::Draft),
+        attestation,
+        certificate: Placed::new(certificate, Role::Certificate),
+    })
 }
 
-fn completions(desk: &Desk) -> Vec<Case> {
-    let registration = answer(desk, 1, 0);
-    let complete = |name: &str, kind, draft: &Vec<u8>, attestation, certificate| Case {
-        name: name.to_string(),
-        call: Call::Complete {
-            kind,
-            draft: draft.clone(),
-            attestation,
-            certificate,
-        },
-    };
+/// The length of the certificate in a full registration.
+const CERTIFICATE: usize = 450;
+
+fn completions(desk: &Desk) -> Vec<(&'static str, Call)> {
+    let empty = Setting::new(0, Ids::Random, SHORT);
+    let half = Setting::new(16, Ids::Random, SHORT);
+    let krd = answer_to(desk, REGISTER, &empty);
+    let signed = answer_to(desk, SIGN_ONE, &half);
+    let confirmed = answer_to(desk, SIGN_CONTENT, &half);
     vec![
-        complete(
+        (
             "registration, full",
-            0,
-            &registration,
-            0x3E07,
-            noise(450, 6),
+            complete(0, &krd, 0x3E07, &noise(CERTIFICATE, 6)),
         ),
-        complete(
-            "registration, surrogate",
-            0,
-            &registration,
-            0x3E08,
-            Vec::new(),
-        ),
-        complete("sign", 1, &answer(desk, 3, 16), 0, Vec::new()),
-        complete("sign, content", 1, &answer(desk, 4, 16), 0, Vec::new()),
+        ("registration, surrogate", complete(0, &krd, 0x3E08, &[])),
+        ("sign", complete(1, &signed, 0, &[])),
+        ("sign, content", complete(1, &confirmed, 0, &[])),
     ]
 }
 
-fn readings(desk: &Desk, completions: &[Case], cases: &mut Vec<Case>) {
-    let mut responses: Vec<(String, Vec<u8>)> = completions
+/// A draft that is wrong only in its last field: a Sign's count, which has risen, is 0.
+fn refused_completion(desk: &Desk) -> Case {
+    let half = Setting::new(16, Ids::Random, SHORT);
+    let mut draft = answer_to(desk, SIGN_ONE, &half);
+    let count = draft.len() - 4;
+    draft[count..].fill(0);
+    let name = "complete: refused, the count of a sign is 0".to_string();
+    refused(name, complete(1, &draft, 0, &[]), BYTES)
+}
+
+/// The lists of names: of all eight records, and of two.
+fn lists(desk: &Desk) -> Vec<(String, Vec<u8>)> {
+    let list = |records, ids, length| answer_to(desk, SIGN, &Setting::new(records, ids, length));
+    vec![
+        ("eight names".to_string(), list(8, Ids::Random, SHORT)),
+        ("eight names, alike".to_string(), list(8, Ids::Alike, SHORT)),
+        ("eight long names".to_string(), list(8, Ids::Random, LONG)),
+        (
+            "eight long names, alike".to_string(),
+            list(8, Ids::Alike, LONG),
+        ),
+        ("two names".to_string(), list(2, Ids::Random, SHORT)),
+    ]
+}
+
+fn responses(desk: &Desk) -> Vec<(String, Vec<u8>)> {
+    let empty = Setting::new(0, Ids::Random, SHORT);
+    let mut responses: Vec<(String, Vec<u8>)> = completions(desk)
         .iter()
-        .map(|case| (case.name.clone(), completed(desk, &case.call)))
+        .map(|(name, call)| (name.to_string(), answer(desk, call)))
         .collect();
-    responses.push(("GetInfo".to_string(), answer(desk, 0, 0)));
-    responses.push(("eight names".to_string(), answer(desk, 2, 16)));
-    responses.push(("a status alone".to_string(), answer(desk, 2, 0)));
-    for (name, response) in responses {
-        cases.push(Case {
-            name: format!("signed part: {}", name),
-            call: Call::SignedPart(response.clone()),
-        });
-        cases.push(Case {
-            name: format!("fields: {}", name),
-            call: Call::ReadFields(response),
-        });
-    }
+    responses.push(("GetInfo".to_string(), answer_to(desk, GET_INFO, &empty)));
+    responses.extend(lists(desk));
+    responses.push(("a status alone".to_string(), answer_to(desk, SIGN, &empty)));
+    responses
+}
+
+/// Bytes that are a response but for their last field: the tag of a certificate is a signature's, and the eighth KeyID is the first one again.
+fn no_responses(desk: &Desk) -> Vec<(String, Vec<u8>)> {
+    let (_, full) = completions(desk).swap_remove(0);
+    let mut registration = answer(desk, &full);
+    let tag = registration.len() - CERTIFICATE - 4;
+    registration[tag] = 0x06;
+    let mut list = answer_to(desk, SIGN, &Setting::new(8, Ids::Random, SHORT));
+    let (first, last) = (4 + 6 + 4 + 4 + SHORT + 4, list.len() - 32);
+    list.copy_within(first..first + 32, last);
+    vec![
+        ("refused, its last tag".to_string(), registration),
+        ("refused, a KeyID twice".to_string(), list),
+    ]
+}
+
+fn both_readings(name: &str, response: &[u8], refusal: u32) -> Vec<Case> {
+    let placed = || Placed::new(response, Role::Response);
+    let case = |entry: &str, call| Case {
+        name: format!("{}: {}", entry, name),
+        call,
+        refusal,
+    };
+    vec![
+        case("signed part", Call::SignedPart(placed())),
+        case("fields", Call::ReadFields(placed())),
+    ]
 }
 
 /// All cases, in the order in which they are reported.
 pub fn all(desk: &Desk) -> Vec<Case> {
-    let mut cases = Vec::new();
-    on_tables(&mut cases);
-    let completions = completions(desk);
-    readings(desk, &completions, &mut cases);
-    let first_reading = cases
-        .iter()
-        .position(|case| matches!(case.call, Call::SignedPart(_)));
-    let at = first_reading.unwrap_or(cases.len());
-    for (i, mut case) in completions.into_iter().enumerate() {
-        case.name = format!("complete: {}", case.name);
-        cases.insert(at + i, case);
+    let mut cases = commands();
+    cases.extend(refused_commands());
+    for (name, call) in completions(desk) {
+        cases.push(served(format!("complete: {}", name), call));
+    }
+    cases.push(refused_completion(desk));
+    for (name, response) in responses(desk) {
+        cases.extend(both_readings(&name, &response, 0));
+    }
+    for (name, bytes) in no_responses(desk) {
+        cases.extend(both_readings(&name, &bytes, BYTES));
     }
     cases
+}
+
+impl Case {
+    /// What both sides write, after it was made sure that they give and write the same.
+    pub fn agreed(&self, desk: &Desk) -> Outputs {
+        let outputs = [token(), peer()].map(|entries| {
+            let mut out = Outputs::new();
+            let gave = repeat(&entries, desk, &self.call, &mut out, 1);
+            assert_eq!(gave, self.refusal, "{}", self.name);
+            out
+        });
+        let [token, peer] = outputs;
+        assert!(token == peer, "{}: the outputs differ", self.name);
+        token
+    }
+
+    /// What the floor copies: what the call writes, the response first, or for the reader the response that it reads.
+    pub fn goes_through(&self, desk: &Desk) -> Vec<Placed> {
+        let out = self.agreed(desk);
+        let response = |bytes: &[u8]| Placed::new(bytes, Role::Response);
+        match &self.call {
+            Call::SignedPart(read) | Call::ReadFields(read) => vec![response(read)],
+            _ if self.refusal != 0 => Vec::new(),
+            Call::Command(_) => vec![
+                response(&out.response[..out.response_length]),
+                Placed::new(&out.table[..out.table_length], Role::Table),
+            ],
+            Call::Complete(_) => vec![response(&out.response[..out.response_length])],
+        }
+    }
 }

@@ -28,7 +28,9 @@ pub fn command(
     if response.len() < LEAST_RESPONSE || table_out.len() < LEAST_TABLE {
         return Err(Refusal::Output);
     }
-    let table = Table::read(table).ok_or(Refusal::Table)?;
+    let stored = table;
+    let mut table = Table::new();
+    table.read(stored).ok_or(Refusal::Table)?;
     let kind = Kind::of_command(command).ok_or(Refusal::Command)?;
     let call = Call::of(kind, lent).ok_or(Refusal::Lent)?;
 
@@ -64,7 +66,9 @@ enum Written {
 
 /// Writes both outputs, or gives the status that is to be answered alone and has written nothing.
 fn serve(call: &Call, command: &[u8], table: &Table, out: &mut Outputs) -> Result<Written, Status> {
-    let params = Params::read(call.kind(), command).ok_or(Status::ParamsInvalid)?;
+    let mut params = Params::new();
+    let read = params.read(call.kind(), command);
+    read.ok_or(Status::ParamsInvalid)?;
     match call {
         Call::GetInfo(profile) => Ok(get_info(profile, table, out)),
         Call::Register(lent) => register(lent, &params, table, out),
@@ -123,7 +127,7 @@ fn register(
         return Err(Status::ErrUnknown);
     }
     // "at 8 own records or 32 in all"
-    if table.own(lent.mixed).count() >= MOST_OWN || table.count() >= MOST_RECORDS {
+    if table.count_own(lent.mixed) >= MOST_OWN || table.count() >= MOST_RECORDS {
         return Err(Status::InsufficientResources);
     }
     let challenge = params.value(tag::FINAL_CHALLENGE_HASH);
@@ -148,21 +152,21 @@ fn sign(
     let mut first = chosen.clone();
     match (first.next(), first.next()) {
         (None, _) => Err(Status::AccessDenied),
-        (Some(record), None) => sign_with(record, lent, params, table, out),
+        (Some(record), None) => sign_with(&record, lent, params, table, out),
         (Some(_), Some(_)) => Ok(offer(chosen, table, out)),
     }
 }
 
 /// A tie: neither signs until one is chosen, and no counter moves.
-fn offer<'r, 'a: 'r>(
-    chosen: impl Iterator<Item = &'r Record<'a>>,
+fn offer<'a>(
+    chosen: impl Iterator<Item = Record<'a>>,
     table: &Table,
     out: &mut Outputs,
 ) -> Written {
     let pairs = |out: &mut Writer| {
         for record in chosen {
             out.wrap(tag::USERNAME_AND_KEYHANDLE, |out| {
-                out.tlv(tag::USERNAME, record.username);
+                out.tlv(tag::USERNAME, record.username());
                 out.tlv(tag::KEYHANDLE, record.key_id);
             });
         }
@@ -184,7 +188,7 @@ fn sign_with(
     if with_content {
         lent.display?;
     }
-    let counter = record.counter.checked_add(1).ok_or(Status::ErrUnknown)?;
+    let counter = record.counter().checked_add(1).ok_or(Status::ErrUnknown)?;
     let challenge = params.value(tag::FINAL_CHALLENGE_HASH);
     write_signed_data(
         lent,
@@ -205,10 +209,12 @@ fn deregister(
     table: &Table,
     out: &mut Outputs,
 ) -> Result<Written, Status> {
-    let key_id = params.value(tag::KEYID);
-    let all = key_id.is_empty();
-    let gone = |record: &Record| record.mixed == mixed && (all || record.key_id == key_id);
-    if !all && !table.records().any(gone) {
+    // Empty for all of them, else of 32 bytes.
+    let key_id: Option<&Bytes32> = params.value(tag::KEYID).try_into().ok();
+    let gone = |record: &Record| {
+        record.mixed == mixed && key_id.map_or(true, |key_id| record.key_id == key_id)
+    };
+    if key_id.is_some() && !table.records().any(|record| gone(&record)) {
         return Err(Status::AccessDenied);
     }
     write_response(Kind::Deregister, Status::Ok, |_| {}, &mut out.answer);

@@ -23,7 +23,7 @@ mod value;
 
 pub use command::command;
 pub use complete::complete;
-pub use reader::{read_fields, signed_part, Fields, MOST_FIELDS};
+pub use reader::{read_fields, read_rows, signed_part, Fields, Heading, MOST_FIELDS};
 pub use tlv::Field;
 pub use value::{command_by_value, load, store, RecordValue, TableValue};
 

@@ -60,27 +60,32 @@ pub(crate) struct Params<'a> {
 }
 
 impl<'a> Params<'a> {
-    /// Nothing, if a rule under "TLV bytes" is broken.
-    pub(crate) fn read(kind: Kind, command: &'a [u8]) -> Option<Self> {
+    pub(crate) fn new() -> Self {
+        Params {
+            values: [None; RULES.len()],
+            handles: KeyIds::new(),
+        }
+    }
+
+    /// Reads what a command was given; nothing, if a rule under "TLV bytes" is broken.
+    pub(crate) fn read(&mut self, kind: Kind, command: &'a [u8]) -> Option<()> {
         if command.len() > MOST_COMMAND {
             return None;
         }
-        let mut params = Params {
-            values: [None; RULES.len()],
-            handles: KeyIds::new(),
-        };
         // "its TLV ends with the lent bytes"
         for child in Run::new(command).sole(kind.command_tag())? {
-            params.child(kind, child.ok()?)?;
+            self.child(kind, child.ok()?)?;
         }
-        params.has_mandatory(kind).then_some(params)
+        self.has_mandatory(kind).then_some(())
     }
 
     fn child(&mut self, kind: Kind, child: Tlv<'a>) -> Option<()> {
         match self.listed(kind, child.tag) {
             Some((rule, _)) if !rule.allows(child.value) => None,
             // "at most 8 of them"
-            Some((rule, _)) if rule.tag == tag::KEYHANDLE => self.handles.push(child.value),
+            Some((rule, _)) if rule.tag == tag::KEYHANDLE => {
+                self.handles.push(child.value.try_into().ok()?)
+            }
             // "A listed child is given at most once, KEYHANDLE excepted"
             Some((_, given)) => given.replace(child.value).is_none().then_some(()),
             // "refused if critical, else skipped, but a skipped composite must still be well

@@ -25,10 +25,54 @@ pub struct Fields {
     pub fields: [Field; MOST_FIELDS],
 }
 
-impl Sink for Fields {
+/// What a response says besides its fields.
+#[derive(Clone, Copy, PartialEq, Eq, Debug)]
+pub struct Heading {
+    /// The response tag.
+    pub tag: u16,
+    /// The status.
+    pub status: u16,
+    /// How many fields there are.
+    pub count: usize,
+}
+
+/// The fields that were met, while it is not known yet whether this is a response; in the least
+/// room, as all of it is set anew in every call.
+struct Met {
+    tags: [u16; MOST_FIELDS],
+    /// A field stands inside a TLV, so its place is not far beyond 16 bits.
+    places: [u32; MOST_FIELDS],
+    lengths: [u16; MOST_FIELDS],
+    count: usize,
+}
+
+impl Met {
+    fn new() -> Self {
+        Met {
+            tags: [0; MOST_FIELDS],
+            places: [0; MOST_FIELDS],
+            lengths: [0; MOST_FIELDS],
+            count: 0,
+        }
+    }
+
+    fn read(&mut self, response: &[u8]) -> Result<Heading, Refusal> {
+        let read = read(response, self).ok_or(Refusal::Bytes)?;
+        Ok(Heading {
+            tag: read.kind.response_tag(),
+            status: read.status,
+            count: self.count,
+        })
+    }
+}
+
+impl Sink for Met {
     fn leaf(&mut self, field: Field) {
-        if let Some(row) = self.fields.get_mut(self.count) {
-            *row = field;
+        let row = self.count;
+        if row < MOST_FIELDS {
+            self.tags[row] = field.tag;
+            self.places[row] = field.place as u32;
+            self.lengths[row] = field.length as u16;
             self.count += 1;
         }
     }
@@ -51,16 +95,39 @@ pub fn signed_part(response: &[u8]) -> Result<Range<usize>, Refusal> {
 ///
 /// [`Refusal::Bytes`] if this is no response.
 pub fn read_fields(response: &[u8]) -> Result<Fields, Refusal> {
-    let mut fields = Fields {
-        tag: 0,
-        status: 0,
-        count: 0,
-        fields: [Field::default(); MOST_FIELDS],
-    };
-    let read = read(response, &mut fields).ok_or(Refusal::Bytes)?;
-    fields.tag = read.kind.response_tag();
-    fields.status = read.status;
-    Ok(fields)
+    let mut met = Met::new();
+    let Heading { tag, status, count } = met.read(response)?;
+    let fields = core::array::from_fn(|row| Field {
+        tag: met.tags[row],
+        place: met.places[row] as usize,
+        length: met.lengths[row].into(),
+    });
+    Ok(Fields {
+        tag,
+        status,
+        count,
+        fields,
+    })
+}
+
+/// As [`read_fields`], but writes the fields' tags, places and lengths into three arrays, which are
+/// left alone if this is no response.
+///
+/// # Errors
+///
+/// [`Refusal::Bytes`] if this is no response.
+pub fn read_rows(
+    response: &[u8],
+    tags: &mut [usize; MOST_FIELDS],
+    places: &mut [usize; MOST_FIELDS],
+    lengths: &mut [usize; MOST_FIELDS],
+) -> Result<Heading, Refusal> {
+    let mut met = Met::new();
+    let heading = met.read(response)?;
+    *tags = met.tags.map(usize::from);
+    *places = met.places.map(|place| place as usize);
+    *lengths = met.lengths.map(usize::from);
+    Ok(heading)
 }
 
 struct Read {
@@ -154,6 +221,7 @@ fn choice(mut run: Run, sink: &mut impl Sink) -> Option<Range<usize>> {
     while !run.is_empty() {
         let pair = run.tagged(tag::USERNAME_AND_KEYHANDLE)?.inside();
         let [_, key_id] = pair.leaves(&PAIR, sink)?;
+        let key_id = key_id.try_into().ok()?;
         if seen.contains(key_id) {
             return None;
         }

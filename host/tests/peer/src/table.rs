@@ -12,64 +12,83 @@ const RECORD: [Row; 4] = [
     Row(tag::COUNTERS, Length::Exactly(4)),
 ];
 
+/// Where the username starts in a record's stored form: after the record's header, KeyID and mixed
+/// token with theirs, and its own.
+const USERNAME: usize = 4 + (4 + 32) + (4 + 32) + 4;
+/// The length of a stored counter, which comes last, and that of its header.
+const COUNTER: usize = 4;
+const HEADER: usize = 4;
+
 /// A record, with its own stored form and the place where that ends in the table's.
 #[derive(Clone, Copy, Debug)]
 pub(crate) struct Record<'a> {
     pub key_id: &'a Bytes32,
     pub mixed: &'a Bytes32,
-    pub username: &'a [u8],
-    pub counter: u32,
     stored: &'a [u8],
     end: usize,
 }
 
-const NO_RECORD: Record<'static> = Record {
-    key_id: &[0; 32],
-    mixed: &[0; 32],
-    username: &[],
-    counter: 0,
-    stored: &[],
-    end: 0,
-};
+impl<'a> Record<'a> {
+    pub(crate) fn username(&self) -> &'a [u8] {
+        let end = self.stored.len().saturating_sub(HEADER + COUNTER);
+        self.stored.get(USERNAME..end).unwrap_or_default()
+    }
 
-/// A table that obeys the record rules, "oldest first".
+    pub(crate) fn counter(&self) -> u32 {
+        match *self.stored {
+            [.., c0, c1, c2, c3] => u32::from_le_bytes([c0, c1, c2, c3]),
+            _ => 0,
+        }
+    }
+}
+
+/// A table that obeys the record rules, "oldest first". Of a record it keeps only what finds the
+/// rest, as all of this room is set anew in every call.
 pub(crate) struct Table<'a> {
     stored: &'a [u8],
-    records: [Record<'a>; MOST_RECORDS],
+    key_ids: [&'a Bytes32; MOST_RECORDS],
+    mixed: [&'a Bytes32; MOST_RECORDS],
+    /// Where each record ends in the stored form.
+    ends: [u16; MOST_RECORDS],
     count: usize,
 }
 
 impl<'a> Table<'a> {
-    /// The table of a stored form, if no rule is broken.
-    pub(crate) fn read(stored: &'a [u8]) -> Option<Self> {
-        let mut table = Table {
-            stored,
-            records: [NO_RECORD; MOST_RECORDS],
+    /// The table without records. A stored one is read into it, so that it is never moved.
+    pub(crate) fn new() -> Self {
+        Table {
+            stored: &[],
+            key_ids: [&[0; 32]; MOST_RECORDS],
+            mixed: [&[0; 32]; MOST_RECORDS],
+            ends: [0; MOST_RECORDS],
             count: 0,
-        };
+        }
+    }
+
+    /// Reads a stored form into an empty table; nothing, if a rule is broken.
+    pub(crate) fn read(&mut self, stored: &'a [u8]) -> Option<()> {
+        self.stored = stored;
         let mut run = Run::new(stored);
         while !run.is_empty() {
-            let start = run.place();
             let held = run.tagged(tag::USERNAME_AND_KEYHANDLE)?.inside();
-            let [key_id, mixed, username, counter] = held.leaves(&RECORD, &mut ())?;
-            table.push(Record {
-                key_id: key_id.try_into().ok()?,
-                mixed: mixed.try_into().ok()?,
-                username,
-                counter: u32::from_le_bytes(counter.try_into().ok()?),
-                stored: stored.get(start..run.place())?,
-                end: run.place(),
-            })?;
+            let [key_id, mixed, _, _] = held.leaves(&RECORD, &mut ())?;
+            self.push(
+                key_id.try_into().ok()?,
+                mixed.try_into().ok()?,
+                run.place().try_into().ok()?,
+            )?;
         }
-        Some(table)
+        Some(())
     }
 
     /// "at most 32 records, oldest first, at most 8 with one mixed token, and no KeyID twice".
-    fn push(&mut self, record: Record<'a>) -> Option<()> {
-        if self.has_key_id(record.key_id) || self.own(record.mixed).count() >= MOST_OWN {
+    fn push(&mut self, key_id: &'a Bytes32, mixed: &'a Bytes32, end: u16) -> Option<()> {
+        if self.has_key_id(key_id) || self.count_own(mixed) >= MOST_OWN {
             return None;
         }
-        *self.records.get_mut(self.count)? = record;
+        *self.key_ids.get_mut(self.count)? = key_id;
+        *self.mixed.get_mut(self.count)? = mixed;
+        *self.ends.get_mut(self.count)? = end;
         self.count += 1;
         Some(())
     }
@@ -78,21 +97,41 @@ impl<'a> Table<'a> {
         self.count
     }
 
-    pub(crate) fn records(&self) -> impl Iterator<Item = &Record<'a>> + Clone {
-        self.records.iter().take(self.count)
+    pub(crate) fn records(&self) -> impl Iterator<Item = Record<'a>> + Clone + '_ {
+        let parts = self.key_ids.iter().zip(&self.mixed).zip(&self.ends);
+        let mut start = 0;
+        parts
+            .take(self.count)
+            .map(move |((&key_id, &mixed), &end)| {
+                let end = usize::from(end);
+                let stored = self.stored.get(start..end).unwrap_or_default();
+                start = end;
+                Record {
+                    key_id,
+                    mixed,
+                    stored,
+                    end,
+                }
+            })
     }
 
     /// The records with this mixed token.
     pub(crate) fn own<'s>(
         &'s self,
         mixed: &'s Bytes32,
-    ) -> impl Iterator<Item = &'s Record<'a>> + Clone {
+    ) -> impl Iterator<Item = Record<'a>> + Clone + 's {
         self.records().filter(move |record| record.mixed == mixed)
+    }
+
+    pub(crate) fn count_own(&self, mixed: &Bytes32) -> usize {
+        let stored = self.mixed.get(..self.count).unwrap_or_default();
+        stored.iter().filter(|&&stored| stored == mixed).count()
     }
 
     /// Whether the KeyID is stored, whosever it is.
     pub(crate) fn has_key_id(&self, key_id: &Bytes32) -> bool {
-        self.records().any(|record| record.key_id == key_id)
+        let stored = self.key_ids.get(..self.count).unwrap_or_default();
+        stored.contains(&key_id)
     }
 
     /// Writes the table as it came.
@@ -121,9 +160,16 @@ impl<'a> Table<'a> {
 
     /// Writes the table without some records: "Removal closes the gap", the rest keep their order.
     pub(crate) fn write_without(&self, gone: impl Fn(&Record) -> bool, out: &mut Writer) {
-        for record in self.records().filter(|record| !gone(record)) {
-            out.put(record.stored);
+        // Neighbours that stay are written together; here the next of them start.
+        let mut kept = 0;
+        for record in self.records().filter(gone) {
+            let start = record.end - record.stored.len();
+            if kept < start {
+                out.put(self.stored.get(kept..start).unwrap_or_default());
+            }
+            kept = record.end;
         }
+        out.put(self.stored.get(kept..).unwrap_or_default());
     }
 }
 
@@ -157,9 +203,9 @@ impl<'a> KeyIds<'a> {
         }
     }
 
-    /// Nothing, if the value has not 32 bytes or is the ninth.
-    pub(crate) fn push(&mut self, value: &'a [u8]) -> Option<()> {
-        *self.list.get_mut(self.count)? = value.try_into().ok()?;
+    /// Nothing, if it is the ninth.
+    pub(crate) fn push(&mut self, key_id: &'a Bytes32) -> Option<()> {
+        *self.list.get_mut(self.count)? = key_id;
         self.count += 1;
         Some(())
     }
@@ -168,10 +214,8 @@ impl<'a> KeyIds<'a> {
         self.count
     }
 
-    pub(crate) fn contains(&self, key_id: &[u8]) -> bool {
-        self.list
-            .iter()
-            .take(self.count)
-            .any(|listed| listed.as_slice() == key_id)
+    pub(crate) fn contains(&self, key_id: &Bytes32) -> bool {
+        let listed = self.list.get(..self.count).unwrap_or_default();
+        listed.contains(&key_id)
     }
 }

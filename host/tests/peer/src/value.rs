@@ -55,16 +55,17 @@ impl Default for TableValue {
 ///
 /// [`Refusal::Table`] if the stored form breaks a rule.
 pub fn load(stored: &[u8]) -> Result<TableValue, Refusal> {
-    let read = Table::read(stored).ok_or(Refusal::Table)?;
+    let mut read = Table::new();
+    read.read(stored).ok_or(Refusal::Table)?;
     let mut table = TableValue::default();
     for (value, record) in table.records.iter_mut().zip(read.records()) {
         value.key_id = *record.key_id;
         value.mixed = *record.mixed;
-        value.name_length = record.username.len();
-        for (place, &byte) in value.name.iter_mut().zip(record.username) {
+        value.name_length = record.username().len();
+        for (place, &byte) in value.name.iter_mut().zip(record.username()) {
             *place = byte;
         }
-        value.counter = record.counter;
+        value.counter = record.counter();
     }
     table.count = read.count();
     Ok(table)
@@ -128,6 +129,6 @@ fn stored_form<'a>(table: &TableValue, form: &'a mut [u8; LEAST_TABLE]) -> Optio
     }
     let length = out.length();
     let form = form.get(..length)?;
-    Table::read(form)?;
+    Table::new().read(form)?;
     Some(form)
 }

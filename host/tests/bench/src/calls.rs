@@ -1,0 +1,228 @@
+//! A call of one of the four entries, with all that it is lent.
+
+use crate::data::noise;
+use crate::entries::{Entries, Row, MOST_FIELDS};
+use crate::placed::{Placed, Role};
+
+pub const LEAST_RESPONSE: usize = 4096;
+pub const LEAST_TABLE: usize = 6912;
+
+pub enum Call {
+    Command(Command),
+    Complete(Complete),
+    SignedPart(Placed),
+    ReadFields(Placed),
+}
+
+pub struct Command {
+    pub command: Placed,
+    pub mixed: Placed,
+    pub key_id: Placed,
+    pub table: Placed,
+    /// How much of the table output is lent.
+    pub room: usize,
+}
+
+pub struct Complete {
+    pub kind: u32,
+    pub draft: Placed,
+    pub attestation: u32,
+    pub certificate: Placed,
+}
+
+impl Call {
+    /// Moves what it is lent to its place in a round.
+    pub fn settle(&mut self, round: usize) {
+        let lent = match self {
+            Call::Command(call) => vec![
+                &mut call.command,
+                &mut call.mixed,
+                &mut call.key_id,
+                &mut call.table,
+            ],
+            Call::Complete(call) => vec![&mut call.draft, &mut call.certificate],
+            Call::SignedPart(response) | Call::ReadFields(response) => vec![response],
+        };
+        for placed in lent {
+            placed.settle(round);
+        }
+    }
+}
+
+/// What every call is lent alike.
+pub struct Desk {
+    aaid: Vec<u8>,
+    version: u32,
+    signature_algorithm: u32,
+    key_algorithm: u32,
+    metadata: Vec<u8>,
+    public_key: Vec<u8>,
+    nonce: Vec<u8>,
+    hash: Vec<u8>,
+    signature: Vec<u8>,
+}
+
+impl Desk {
+    pub fn new() -> Self {
+        Desk {
+            aaid: b"4A4F#0001".to_vec(),
+            version: 1,
+            signature_algorithm: 2,
+            key_algorithm: 0x101,
+            metadata: noise(15, 1),
+            public_key: noise(91, 2),
+            nonce: noise(16, 3),
+            hash: noise(32, 4),
+            signature: noise(71, 5),
+        }
+    }
+}
+
+/// Whatever a call can write.
+#[derive(PartialEq)]
+pub struct Outputs {
+    pub response: Placed,
+    pub table: Placed,
+    answer: u32,
+    pub response_length: usize,
+    pub table_length: usize,
+    place: usize,
+    part_length: usize,
+    tag: usize,
+    status: usize,
+    count: usize,
+    tags: Row,
+    places: Row,
+    lengths: Row,
+}
+
+/// What outputs hold before a call, so that what it leaves alone is seen too.
+const BEFORE: usize = 0xA5;
+
+impl Outputs {
+    pub fn new() -> Self {
+        Outputs {
+            response: Placed::new(&[BEFORE as u8; LEAST_RESPONSE], Role::ResponseOut),
+            table: Placed::new(&[BEFORE as u8; LEAST_TABLE], Role::TableOut),
+            answer: BEFORE as u32,
+            response_length: BEFORE,
+            table_length: BEFORE,
+            place: BEFORE,
+            part_length: BEFORE,
+            tag: BEFORE,
+            status: BEFORE,
+            count: BEFORE,
+            tags: [BEFORE; MOST_FIELDS],
+            places: [BEFORE; MOST_FIELDS],
+            lengths: [BEFORE; MOST_FIELDS],
+        }
+    }
+}
+
+/// Makes a call so many times; gives what the last one gave, 0 or the number of a refusal.
+#[inline(never)]
+pub fn repeat(entries: &Entries, desk: &Desk, call: &Call, out: &mut Outputs, times: u32) -> u32 {
+    match call {
+        Call::Command(call) => commands(entries, desk, call, out, times),
+        Call::Complete(call) => completions(entries, desk, call, out, times),
+        Call::SignedPart(response) => {
+            let (at, size) = (response.as_ptr(), response.len());
+            // Safety: as in `commands`.
+            again(times, || unsafe {
+                (entries.signed_part)(at, size, &mut out.place, &mut out.part_length)
+            })
+        }
+        Call::ReadFields(response) => {
+            let (at, size) = (response.as_ptr(), response.len());
+            // Safety: as in `commands`.
+            again(times, || unsafe {
+                (entries.read_fields)(
+                    at,
+                    size,
+                    &mut out.tag,
+                    &mut out.status,
+                    &mut out.count,
+                    &mut out.tags,
+                    &mut out.places,
+                    &mut out.lengths,
+                )
+            })
+        }
+    }
+}
+
+fn commands(entries: &Entries, desk: &Desk, call: &Command, out: &mut Outputs, times: u32) -> u32 {
+    let (response, response_size) = (out.response.as_mut_ptr(), out.response.len());
+    let table_out = out.table[..call.room].as_mut_ptr();
+    // Safety: every pointer goes with the length of what it points to, and no output overlaps anything else that is lent.
+    again(times, || unsafe {
+        (entries.command)(
+            call.command.as_ptr(),
+            call.command.len(),
+            desk.aaid.as_ptr(),
+            desk.aaid.len(),
+            desk.version,
+            desk.signature_algorithm,
+            desk.key_algorithm,
+            desk.metadata.as_ptr(),
+            desk.metadata.len(),
+            0,
+            0,
+            call.mixed.as_ptr(),
+            call.mixed.len(),
+            call.key_id.as_ptr(),
+            call.key_id.len(),
+            desk.public_key.as_ptr(),
+            desk.public_key.len(),
+            desk.nonce.as_ptr(),
+            desk.nonce.len(),
+            desk.hash.as_ptr(),
+            desk.hash.len(),
+            call.table.as_ptr(),
+            call.table.len(),
+            response,
+            response_size,
+            table_out,
+            call.room,
+            &mut out.answer,
+            &mut out.response_length,
+            &mut out.table_length,
+        )
+    })
+}
+
+fn completions(
+    entries: &Entries,
+    desk: &Desk,
+    call: &Complete,
+    out: &mut Outputs,
+    times: u32,
+) -> u32 {
+    let (response, response_size) = (out.response.as_mut_ptr(), out.response.len());
+    // Safety: as in `commands`.
+    again(times, || unsafe {
+        (entries.complete)(
+            call.kind,
+            call.draft.as_ptr(),
+            call.draft.len(),
+            call.attestation,
+            desk.signature.as_ptr(),
+            desk.signature.len(),
+            call.certificate.as_ptr(),
+            call.certificate.len(),
+            response,
+            response_size,
+            &mut out.response_length,
+        )
+    })
+}
+
+/// The loop that is timed: nothing but the call stands in it.
+#[inline(always)]
+fn again(times: u32, mut call: impl FnMut() -> u32) -> u32 {
+    let mut gave = 0;
+    for _ in 0..times {
+        gave = call();
+    }
+    gave
+}

@@ -1,0 +1,164 @@
+//! Times: medians of batches that take turns, in rounds through all cases, so that a while in which the machine is slow falls on both sides of a
+//! case alike, and on a part of its batches only. In each round the buffers lie elsewhere, and so does the stack.
+
+use crate::calls::{repeat, Desk, Outputs};
+use crate::cases::Case;
+use crate::entries::{copier, peer, token, Entries};
+use crate::placed::Placed;
+use crate::stack;
+use std::time::{Duration, Instant};
+
+const ROUNDS: usize = 11;
+/// The turns of a case in one round; odd in all, so that there is one in the middle.
+const TURNS: usize = 9;
+/// How long a batch takes at least.
+const BATCH: Duration = Duration::from_micros(250);
+
+#[derive(Clone, Copy)]
+enum Runner {
+    Token,
+    Peer,
+    Floor,
+}
+
+/// A case on the clock: how many calls make a batch, and how many nanoseconds a call took in each.
+struct Clocked<'a> {
+    desk: &'a Desk,
+    case: &'a mut Case,
+    copied: Vec<Placed>,
+    batch: [u32; 3],
+    spent: [Vec<f64>; 3],
+}
+
+/// Nanoseconds of a call. The ratio is the median of the turns' ratios, which is steadier than that of the medians.
+pub struct Times {
+    pub token: f64,
+    pub peer: f64,
+    pub ratio: f64,
+    /// Nothing where nothing is copied.
+    pub floor: Option<f64>,
+}
+
+pub fn measure(desk: &Desk, cases: &mut [Case]) -> Vec<Times> {
+    let mut out = Outputs::new();
+    let mut clocked: Vec<Clocked> = cases
+        .iter_mut()
+        .map(|case| Clocked::new(desk, case, &mut out))
+        .collect();
+    for round in 0..ROUNDS {
+        out.response.settle(round);
+        out.table.settle(round);
+        stack::from_place(round, || {
+            for case in &mut clocked {
+                case.settle(round);
+                case.turns(&mut out);
+            }
+        });
+    }
+    clocked.iter().map(Clocked::times).collect()
+}
+
+impl<'a> Clocked<'a> {
+    fn new(desk: &'a Desk, case: &'a mut Case, out: &mut Outputs) -> Self {
+        let mut clocked = Clocked {
+            desk,
+            copied: case.goes_through(desk),
+            case,
+            batch: [16; 3],
+            spent: [Vec::new(), Vec::new(), Vec::new()],
+        };
+        for runner in clocked.runners(0) {
+            clocked.fit_batch(runner, out);
+        }
+        clocked
+    }
+
+    /// Who takes part in a turn, and in what order.
+    fn runners(&self, turn: usize) -> Vec<Runner> {
+        let mut runners = vec![Runner::Token, Runner::Peer];
+        if turn % 2 == 1 {
+            runners.swap(0, 1);
+        }
+        if !self.copied.is_empty() {
+            runners.push(Runner::Floor);
+        }
+        runners
+    }
+
+    /// Doubles a batch until the quickest of three is long enough: one alone may have been held up.
+    fn fit_batch(&mut self, runner: Runner, out: &mut Outputs) {
+        while (0..3).map(|_| self.clock(runner, out)).min() < Some(BATCH) {
+            self.batch[runner as usize] *= 2;
+        }
+    }
+
+    fn clock(&self, runner: Runner, out: &mut Outputs) -> Duration {
+        let times = self.batch[runner as usize];
+        match runner {
+            Runner::Token => self.calls(&token(), out, times),
+            Runner::Peer => self.calls(&peer(), out, times),
+            Runner::Floor => self.copies(out, times),
+        }
+    }
+
+    fn calls(&self, entries: &Entries, out: &mut Outputs, times: u32) -> Duration {
+        let start = Instant::now();
+        let gave = repeat(entries, self.desk, &self.case.call, out, times);
+        let took = start.elapsed();
+        assert_eq!(gave, self.case.refusal, "{}", self.case.name);
+        took
+    }
+
+    fn copies(&self, out: &mut Outputs, times: u32) -> Duration {
+        let copy = copier();
+        let outputs = [&mut out.response, &mut out.table];
+        let copies: Vec<(*mut u8, &[u8])> = outputs
+            .into_iter()
+            .zip(&self.copied)
+            .map(|(to, from)| (to[..from.len()].as_mut_ptr(), &from[..]))
+            .collect();
+        let start = Instant::now();
+        for _ in 0..times {
+            for (to, from) in &copies {
+                // Safety: each output is as long as what is copied into it, and apart from it.
+                unsafe { copy(to.cast(), from.as_ptr().cast(), from.len()) };
+            }
+        }
+        start.elapsed()
+    }
+
+    fn settle(&mut self, round: usize) {
+        self.case.call.settle(round);
+        for copied in &mut self.copied {
+            copied.settle(round);
+        }
+    }
+
+    fn turns(&mut self, out: &mut Outputs) {
+        for turn in 0..TURNS {
+            for runner in self.runners(turn) {
+                let took = self.clock(runner, out).as_nanos() as f64;
+                let calls = f64::from(self.batch[runner as usize]);
+                self.spent[runner as usize].push(took / calls);
+            }
+        }
+    }
+
+    fn times(&self) -> Times {
+        let [token, peer, floor] = &self.spent;
+        let ratios = token.iter().zip(peer).map(|(token, peer)| token / peer);
+        Times {
+            ratio: median(ratios.collect()),
+            token: median(token.clone()),
+            peer: median(peer.clone()),
+            floor: Some(floor.clone())
+                .filter(|floor| !floor.is_empty())
+                .map(median),
+        }
+    }
+}
+
+fn median(mut numbers: Vec<f64>) -> f64 {
+    numbers.sort_by(f64::total_cmp);
+    numbers[numbers.len() / 2]
+}
