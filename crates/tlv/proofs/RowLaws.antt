@@ -1,54 +1,36 @@
--- Rows of 32 bytes: two of them byte by byte, how often a row stands there, what a walk over the rows goes by, and a row more.
+-- Rows of 32 bytes: two stretches part by part, how often a row and a mark stand there, what a walk over the rows goes by, and a row more.
 -- Assumes nothing.
 use mathlib.Core.Path.{_≡_, refl, sym, ap, _∙_, fun-ext}
-use mathlib.Core.Bool.{Bool, true, false, not, cond, _&&_}
-use mathlib.Core.List.{List, [], _∷_, _++_, map-append}
+use mathlib.Core.Bool.{Bool, true, false, not, cond, _&&_, and-true, and-false}
+use mathlib.Core.List.{List, [], _∷_, _++_, map, map-append}
 use Prim.Native.Nat.{ℕ, zero, suc, _+_, _-_, _≤_, _<_}
-use native.Mathlib.Nat.{zero-add, pos-of-ne-zero}
+use native.Mathlib.Nat.{zero-add, suc-add, pos-of-ne-zero}
 use native.Mathlib.Numerals.{add-one}
 use native.Mathlib.Omega.{arith}
-use lib.ListN.{length, getD, take, drop, drop-of-length-le, length-append, length-drop, length-map, List·getD-append, List·getD-map}
-use lib.Seq.{drop-cons, getD-drop, getD-at}
+use lib.ListN.{length, getD, take, drop, set, drop-of-length-le, length-append, length-drop, length-map, List·getD-append, List·getD-map}
+use lib.Seq.{take-nil, take-suc, take-suc-set, drop-cons, drop-drop, getD-at}
 use lib.Dec.{eqb, leb, ltb}
-use borrow.Author.Tests.{ltb-true, ltb-false, leb-true, le-leb, lt-leb, ne-eqb, eqb-true, eqb-false}
+use borrow.Author.Tests.{ltb-true, ltb-false, leb-true, leb-false, le-leb, lt-leb, eq-eqb, ne-eqb, eqb-true, eqb-false}
 use Rattle.model.specs.Lists.{all, consIf, eqBytes, among, distinct}
-use Rattle.model.proofs.Basics.{split, eqBytes-refl, eqBytes-eq, eqBytes-not}
-use Rattle.tlv.specs.Rows.{rows, row, Within, times, eachFew}
+use Rattle.model.proofs.Basics.{split, eqBytes-refl, eqBytes-eq}
+use Rattle.tlv.specs.Rows.{rows, row, Within, times, often, eachFew, mark, alike}
 
--- ---- two rows, byte by byte
+-- ---- two stretches, part by part
 
-one-more : (i : ℕ) (x y : List ℕ) → i < length x → i < length y
-    → eqBytes (take (suc i) x) (take (suc i) y) ≡ (eqb (getD x i 0) (getD y i 0) && eqBytes (take i x) (take i y))
+same-add : (m n : ℕ) (x y : List ℕ)
+    → eqBytes (take (m + n) x) (take (m + n) y) ≡ (eqBytes (take n (drop m x)) (take n (drop m y)) && eqBytes (take m x) (take m y))
 unfolding eqBytes
-one-more i [] y h k = absurd (omega arith)
-one-more i (a ∷ x) [] h k = absurd (omega arith)
-one-more zero (a ∷ x) (b ∷ y) h k = refl
-one-more (suc i) (a ∷ x) (b ∷ y) h k =
-    let ih = one-more i x y (omega arith) (omega arith) in
-    split (eqb a b)
-    (λ e. rw e ih)
-    (λ e. split (eqb (getD x i 0) (getD y i 0)) (λ f. rw (e, f)) (λ f. rw (e, f)))
+same-add zero n x y = simp (zero-add, and-true)
+same-add (suc m) n [] [] = simp (suc-add, take-nil)
+same-add (suc m) n [] (b ∷ y) = simp (suc-add, and-false)
+same-add (suc m) n (a ∷ x) [] = simp (suc-add, and-false)
+same-add (suc m) n (a ∷ x) (b ∷ y) =
+    split (eqb a b) (λ e. simp (suc-add, e, same-add m n x y)) (λ e. simp (suc-add, e, and-false))
 
--- the first bytes of what stands at two places, and one more
-pub more-bytes : (a b : List ℕ) (p q i : ℕ) → p + i < length a → q + i < length b
-    → eqBytes (take (i + 1) (drop p a)) (take (i + 1) (drop q b))
-    ≡ (eqb (getD a (p + i) 0) (getD b (q + i) 0) && eqBytes (take i (drop p a)) (take i (drop q b)))
-more-bytes a b p q i h k =
-    rw (add-one, ← getD-drop p a i 0, ← getD-drop q b i 0)
-    (one-more i (drop p a) (drop q b) (simp length-drop (omega arith)) (simp length-drop (omega arith)))
-
--- the first byte of nothing
-pub first-none : (v : List ℕ) → length v ≡ 0 → 0 ≡ getD v 0 0
-first-none [] e = refl
-first-none (x ∷ v) e = absurd (omega arith)
-
--- a row that begins with another byte
-pub first-differs : (s v : List ℕ) (p : ℕ) → p + 32 ≤ length s → (getD s p 0 ≡ getD v 0 0 → ⊥) → eqBytes (row p s) v ≡ false
-first-differs s v p h k =
-    eqBytes-not (row p s) v
-    (λ e. k (let d : drop p s ≡ getD s p 0 ∷ drop (suc p) s = drop-cons s p 0 (omega arith) in
-    let f : getD (row p s) 0 0 ≡ getD s p 0 = rw d in
-    sym f ∙ ap (λ (x : List ℕ). getD x 0 0) e))
+-- m bytes at two places, and n more: r and u are what tests of them gave
+pub same-more : (m n : ℕ) (a b : List ℕ) (p q : ℕ) {r u : Bool} → r ≡ eqBytes (take m (drop p a)) (take m (drop q b))
+    → u ≡ (eqBytes (take n (drop (p + m) a)) (take n (drop (q + m) b)) && r) → u ≡ eqBytes (take (m + n) (drop p a)) (take (m + n) (drop q b))
+same-more m n a b p q e f = f ∙ rw (e, same-add m n (drop p a) (drop q b), drop-drop m p a, drop-drop m q b)
 
 -- ---- how often a row stands there
 
@@ -56,7 +38,7 @@ times-none : (v : List ℕ) → times v [] ≡ 0
 unfolding times
 times-none v = refl
 
-length-consIf : (b : Bool) (x : List ℕ) (xs : List (List ℕ)) → length (consIf b x xs) ≡ cond b 1 0 + length xs
+length-consIf : {A : Type 0} (b : Bool) (x : A) (xs : List A) → length (consIf b x xs) ≡ cond b 1 0 + length xs
 length-consIf true x xs = omega arith
 length-consIf false x xs = omega arith
 
@@ -82,6 +64,10 @@ few-without most c cs h x =
     (λ e. let k : leb (times x (c ∷ cs)) most ≡ true = rw (← eqBytes-eq c x e) h in
     k ∙ sym (le-leb (times x cs) most (omega (arith, leb-true, times-cons x c cs))))
     (λ e. rw (times-cons x c cs, e, zero-add))
+
+-- one more is too many exactly if there are so many already
+more-than : (n k : ℕ) → leb (1 + k) n ≡ not (leb n k)
+more-than n k = split (leb n k) (λ e. rw e (lt-leb (1 + k) n (omega (arith, leb-true)))) (λ e. rw e (le-leb (1 + k) n (omega (arith, leb-false))))
 
 -- no row stands there more often than there are rows
 times-most : (v : List ℕ) (cs : List (List ℕ)) → times v cs ≤ length cs
@@ -133,12 +119,45 @@ few-distinct cs = few-from 1 cs ∙ from-own cs
     from-own [] = refl
     from-own (c ∷ cs) = rw (once-alone c cs, from-own cs)
 
+-- ---- how often a mark stands there
+
+alike-none : (x : ℕ) → alike x [] ≡ 0
+unfolding alike
+alike-none x = refl
+
+alike-cons : (x m : ℕ) (ms : List ℕ) → alike x (m ∷ ms) ≡ cond (eqb m x) 1 0 + alike x ms
+unfolding alike
+alike-cons x m ms = length-consIf (eqb m x) m _
+
+pub alike-end : (x : ℕ) (ms : List ℕ) (i : ℕ) → length ms ≤ i → alike x (drop i ms) ≡ 0
+alike-end x ms i h = ap (alike x) (drop-of-length-le ms {i = i} h) ∙ alike-none x
+
+pub alike-at : (x : ℕ) (ms : List ℕ) (i : ℕ) {b : Bool} → i < length ms → eqb (getD ms i 0) x ≡ b
+    → alike x (drop i ms) ≡ cond b 1 0 + alike x (drop (i + 1) ms)
+alike-at x ms i h e = rw (add-one, drop-cons ms i 0 h, alike-cons, e)
+
+-- a row stands there no more often than its mark, whatever function of the row a mark is
+times-alike : (f : List ℕ → ℕ) (v : List ℕ) (cs : List (List ℕ)) → times v cs ≤ alike (f v) (map f cs)
+times-alike f v [] = omega (arith, times-none v)
+times-alike f v (c ∷ cs) =
+    split (eqBytes c v)
+    (λ e. rw (times-cons v c cs, alike-cons, e, eq-eqb (f c) (f v) (ap f (eqBytes-eq c v e))) (omega (arith, times-alike f v cs)))
+    (λ e. rw (times-cons v c cs, alike-cons, e) (omega (arith, times-alike f v cs)))
+
+map-drop : (f : List ℕ → ℕ) (n : ℕ) (cs : List (List ℕ)) → drop n (map f cs) ≡ map f (drop n cs)
+map-drop f zero cs = refl
+map-drop f (suc n) [] = refl
+map-drop f (suc n) (c ∷ cs) = map-drop f n cs
+
 -- ---- a walk over the rows
 
 module _ (off : ℕ) (at s : List ℕ) where
   pub length-rows : length (rows off at s) ≡ length at
   unfolding rows
   length-rows = length-map at (λ p. row (p + off) s)
+
+  pub length-marks : length (map mark (rows off at s)) ≡ length at
+  length-marks = length-map (rows off at s) mark ∙ length-rows
 
   module _ (i : ℕ) where
     -- past the last row
@@ -149,7 +168,7 @@ module _ (off : ℕ) (at s : List ℕ) where
     pub few-end : (most : ℕ) → i ≤ length at → length at - i ≤ most → fewFrom most (drop i (rows off at s)) ≡ true
     few-end most h k = few-short most (drop i (rows off at s)) (simp length-drop (omega (arith, length-rows)))
 
-    -- at row i, where b is what a test of this row gave
+    -- at row i
     module _ (h : i < length at) where
       pub rows-at : drop i (rows off at s) ≡ row (getD at i 0 + off) s ∷ drop (i + 1) (rows off at s)
       unfolding rows
@@ -157,15 +176,44 @@ module _ (off : ℕ) (at s : List ℕ) where
           let f : ℕ → List ℕ = λ p. row (p + off) s in
           rw (add-one, drop-cons (rows off at s) i (f 0) (omega (arith, length-rows)), List·getD-map f at i 0)
 
-      module _ {b : Bool} where
-        pub times-at : (v : List ℕ) → b ≡ eqBytes (row (getD at i 0 + off) s) v
-            → times v (drop i (rows off at s)) ≡ cond b 1 0 + times v (drop (i + 1) (rows off at s))
-        times-at v e = rw (rows-at, times-cons, ← e)
+      -- b is what a test of this row gave
+      pub times-at : {b : Bool} (v : List ℕ) → b ≡ eqBytes (row (getD at i 0 + off) s) v
+          → times v (drop i (rows off at s)) ≡ cond b 1 0 + times v (drop (i + 1) (rows off at s))
+      times-at v e = rw (rows-at, times-cons, ← e)
 
-        -- where k is how often it stands behind its place
-        pub few-at : (most : ℕ) {k : ℕ} → k ≡ times (row (getD at i 0 + off) s) (drop (i + 1) (rows off at s)) → leb (1 + k) most ≡ b
-            → fewFrom most (drop i (rows off at s)) ≡ (b && fewFrom most (drop (i + 1) (rows off at s)))
-        few-at most e f = rw (rows-at, times-own, ← e, f)
+      -- where k is how often it stands behind its place
+      pub often-at : (most : ℕ) {k : ℕ} → k ≡ times (row (getD at i 0 + off) s) (drop (i + 1) (rows off at s))
+          → leb most k ≡ often most (drop i (rows off at s))
+      unfolding often
+      often-at most e = rw (rows-at, e)
+
+      -- x goes on behind it, or is false: r is what the test gave, b which way was taken
+      pub few-at : (most : ℕ) {x r b : Bool} → x ≡ fewFrom most (drop i (rows off at s)) → r ≡ often most (drop i (rows off at s)) → r ≡ b
+          → x ≡ (not b && fewFrom most (drop (i + 1) (rows off at s)))
+      unfolding often
+      few-at most d e f = d ∙ rw (← f, e, rows-at, times-own, more-than)
+
+      mark-at : getD (map mark (rows off at s)) i 0 ≡ mark (row (getD at i 0 + off) s)
+      mark-at =
+          let ms = map mark (rows off at s) in
+          let here : drop i ms ≡ getD ms i 0 ∷ drop (suc i) ms = drop-cons ms i 0 (omega (arith, length-marks)) in
+          let row-here : drop i ms ≡ mark (row (getD at i 0 + off) s) ∷ map mark (drop (i + 1) (rows off at s)) = rw (map-drop, rows-at) in
+          cc
+
+      -- its mark written behind those of the rows before it
+      pub marks-more : (ms : List ℕ) {m : ℕ} → i < length ms → m ≡ mark (row (getD at i 0 + off) s) → take i ms ≡ take i (map mark (rows off at s))
+          → take (i + 1) (set ms i m) ≡ take (i + 1) (map mark (rows off at s))
+      marks-more ms {m} k e f =
+          rw (add-one, take-suc-set ms i m k, f, e, take-suc (map mark (rows off at s)) i 0 (omega (arith, length-marks)), mark-at)
+
+      -- where k, how often its mark stands behind its place, is less than so often
+      pub seldom-at : (most : ℕ) {k : ℕ} → k ≡ alike (getD (map mark (rows off at s)) i 0) (drop (i + 1) (map mark (rows off at s))) → k < most
+          → false ≡ often most (drop i (rows off at s))
+      unfolding often
+      seldom-at most {k} e h =
+          let few = times-alike mark (row (getD at i 0 + off) s) (drop (i + 1) (rows off at s)) in
+          let k-is : k ≡ alike (mark (row (getD at i 0 + off) s)) (map mark (drop (i + 1) (rows off at s))) = e ∙ rw (mark-at, map-drop) in
+          sym (rw rows-at (lt-leb most _ (omega (arith, few, k-is, h))))
 
 -- ---- a place more
 

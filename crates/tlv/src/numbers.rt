@@ -29,6 +29,14 @@ pub fn get32(s: &[u8], at: usize) -> usize
     get16(s, at) + 65536 * get16(s, at + 2)
 }
 
+// The 64-bit number at a place.
+pub fn get64(s: &[u8], at: usize) -> usize
+    requires { ⌜ at + 8 ≤ length (now s) ⌝ }
+    ensures { λ r. ⌜ NumberAt 8 (now (s .entry)) at r ⌝ }
+{
+    get32(s, at) + 4294967296 * get32(s, at + 4)
+}
+
 // The two lowest bytes of a length or a tag, the lowest first: the one place that splits a number into bytes.
 fn split(n: usize) -> [u8; 2]
     ensures { λ r. ⌜ r ≡ le 2 n ⌝ }
