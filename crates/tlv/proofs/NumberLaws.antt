@@ -45,7 +45,7 @@ pub number-byte : (s : List ℕ) (at : ℕ) {r : ℕ} → at < length s → r �
 unfolding numAt num
 number-byte s at h e k = record { value = e ∙ sym (rw (drop-cons s at 0 h) (omega arith)); small = k }
 
--- ---- the same bytes are the same number
+-- ---- the bytes of a number, and bytes that are the same
 
 -- a part of a slice of bytes
 part-bytes : (w p : ℕ) (s : List ℕ) → ((i : ℕ) → Fits w8 (getD s i 0)) → Bytes (take w (drop p s))
@@ -62,6 +62,14 @@ num-same s t b d e =
     split (eqBytes s t)
     (λ h. eq-eqb _ _ (ap num (eqBytes-eq s t h)) ∙ sym h)
     (λ h. ne-eqb (num s) (num t) (λ k. let st : s ≡ t = cc in clash (eqBytes-same st) h) ∙ sym h)
+
+-- the number at a place, written, is the bytes there
+pub number-written : (w at : ℕ) {s : List ℕ} {x : ℕ} → ((i : ℕ) → Fits w8 (getD s i 0)) → at + w ≤ length s → NumberAt w s at x
+    → le w x ≡ take w (drop at s)
+unfolding numAt
+number-written w at {s} f h m =
+    let l : length (take w (drop at s)) ≡ w = length-take-le w (drop at s) (simp length-drop (omega arith)) in
+    rw (m .value) (rw l at (le-num (take w (drop at s)) (part-bytes w at s f)))
 
 -- two stretches of w bytes are the same exactly where their numbers are
 pub number-same : (w : ℕ) {a b : List ℕ} {p q x y : ℕ} → ((i : ℕ) → Fits w8 (getD a i 0)) → ((i : ℕ) → Fits w8 (getD b i 0))

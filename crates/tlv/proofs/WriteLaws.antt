@@ -2,12 +2,12 @@
 -- Assumes nothing.
 use mathlib.Core.Path.{_≡_, refl, sym, ap, _∙_}
 use mathlib.Core.List.{List, [], _∷_, _++_, append-assoc}
-use Prim.Native.Nat.{ℕ, suc, _+_, _≤_, _<_}
+use Prim.Native.Nat.{ℕ, suc, _+_, _-_, _≤_, _<_}
 use native.Mathlib.Nat.{add-zero}
 use native.Mathlib.Numerals.{add-one}
 use native.Mathlib.Omega.{arith}
 use lib.ListN.{length, getD, take, drop, set, length-append, length-drop, take-append-drop}
-use lib.Seq.{take-length, paste, paste-suc, take-at, drop-at, length-take-le, drop-drop, sets, sets-eq}
+use lib.Seq.{take-length, take-take, take-add, take-append-add, paste, paste-suc, take-paste, drop-paste, take-at, drop-at, length-take-le, drop-drop, sets, sets-eq}
 use Rattle.model.specs.Tlv.{Tlv, tlv, header, bytes}
 use Rattle.model.proofs.Tlvs.{bytes-append, bytes-one}
 use Rattle.tlv.specs.Writing.{splice, Wrote}
@@ -52,6 +52,12 @@ module _ {d d′ xs ys : List ℕ} {at m n r : ℕ} where
   -- the same write, with its bytes and their number put another way
   pub same : xs ≡ ys → m ≡ n → Wrote d at xs m d′ r → Wrote d at ys n d′ r
   same e k p = rw (← e, ← k) p
+
+module _ {d d₁ d₂ : List ℕ} {at r₁ r₂ : ℕ} where
+  -- a part of s, and the part after it
+  pub then-part : (s : List ℕ) (i m n : ℕ) → Wrote d at (take m (drop i s)) m d₁ r₁ → Wrote d₁ r₁ (take n (drop (i + m) s)) n d₂ r₂
+      → Wrote d at (take (m + n) (drop i s)) (m + n) d₂ r₂
+  then-part s i m n p q = same (rw (take-add m n (drop i s), drop-drop m i s)) refl (then p q)
 
 -- nothing written
 pub wrote-none : (d : List ℕ) (at : ℕ) → at ≤ length d → Wrote d at [] 0 d at
@@ -105,6 +111,24 @@ wrote-stores vs d at r h e =
 pub paste-step : (d s : List ℕ) (at i : ℕ) {x : List ℕ} → at + i < length d → i < length s → x ≡ paste d at s i
     → set x (at + i) (getD s i 0) ≡ paste d at s (i + 1)
 paste-step d s at i h k e = rw (e, add-one) (paste-suc d at s i 0 h k)
+
+-- a write of w bytes of s at their own place, over a copy that has come as far as somewhere in them
+pub paste-over : (d s : List ℕ) (at i j w : ℕ) {x d′ : List ℕ} {a r : ℕ} → a ≡ at + j → j ≤ i → i ≤ j + w → j + w ≤ length s
+    → at + (j + w) ≤ length d → x ≡ paste d at s i → Wrote x a (take w (drop j s)) w d′ r → d′ ≡ paste d at s (j + w)
+paste-over d s at i j w {x} g h k l m e p =
+    let n : at ≤ length d = omega arith in
+    let q : length (take at d) ≡ at = length-take-le at d n in
+    let t : take (at + i) x ≡ take at d ++ take i s = rw e (take-paste d at s i n (omega arith)) in
+    let u : take (at + j) (take at d ++ take i s) ≡ take at d ++ take j (take i s) =
+    rw q at (take-append-add (take at d) (take i s) j) in
+    let a : take (at + j) x ≡ take at d ++ take j s =
+    sym (take-take (at + j) (at + i) x (omega arith)) ∙ rw (t, u, take-take j i s h) in
+    let o : at + j + length (take w (drop j s)) ≡ at + i + (j + w - i) = omega (arith, p .size) in
+    let v : drop (at + i) x ≡ drop (at + i) d = rw e (drop-paste d at s i n (omega arith)) in
+    let f : at + i + (j + w - i) ≡ at + (j + w) = omega arith in
+    let b : drop (at + j + length (take w (drop j s))) x ≡ drop (at + (j + w)) d =
+    rw (o, ← drop-drop (j + w - i) (at + i) x, v, drop-drop (j + w - i) (at + i) d, f) in
+    p .bytes ∙ rw (g, a, b, take-add j w s) (simp append-assoc)
 
 -- all of it
 pub wrote-paste : (d s : List ℕ) (at i : ℕ) {d′ : List ℕ} {r : ℕ} → at + length s ≤ length d → r ≡ at + i → i ≡ length s

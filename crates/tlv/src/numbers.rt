@@ -72,3 +72,12 @@ pub fn put32(out: &mut [u8], at: usize, n: usize) -> usize
     let mid = put16(out, at, n);
     put16(out, mid, n / 65536)
 }
+
+// Writes a number in eight bytes, its low half first.
+pub fn put64(out: &mut [u8], at: usize, n: usize) -> usize
+    requires { ⌜ at + 8 ≤ length (now out) ⌝ }
+    ensures { λ r. ⌜ Wrote (now (out .entry)) at (le 8 n) 8 (now (out .exit)) r ⌝ }
+{
+    let mid = put32(out, at, n);
+    put32(out, mid, n / 4294967296)
+}

@@ -7,8 +7,8 @@ use lib.ListN.{length}
 use lib.Seq.{paste, paste-zero}
 use Rattle.tlv.proofs.WriteLaws.{wrote-paste, paste-step}
 use borrow.Author.Needs.{needs}
-use Rattle.tlv.proofs.writer.put_bytes.Statement.{statement}
-use Rattle.tlv.proofs.writer.put_bytes.Tie as tie
+use Rattle.tlv.proofs.writer.put_few.Statement.{statement}
+use Rattle.tlv.proofs.writer.put_few.Tie as tie
 
 abbrev Inv-loop : tie.InvT-loop
 Inv-loop out₀ at src i₀ out i = (i ≤ length src) × (length out ≡ length out₀) × (out ≡ paste out₀ at src i)
@@ -26,8 +26,8 @@ loop-again c =
 returns : tie.Need-returns Inv-loop μ-loop
 returns c = wrote-paste _ _ _ (c .before .loop .i) (c .before .before .pre) refl (omega arith) (c .before .loop .inv .2)
 
-pub put-bytes-spec : {M : Type 1} → statement M
-put-bytes-spec =
+pub put-few-spec : {M : Type 1} → statement M
+put-few-spec =
     tie.close
     (tie.spec Inv-loop μ-loop loop-holds (λ c. search needs) (λ c. search needs) (λ c. search needs) (λ c. search needs) (λ c. search needs)
     loop-again (λ c. search needs) (λ c. search needs) returns)
