@@ -20,7 +20,7 @@ use Rattle.model.proofs.Rules.{RecordRules, record-rules, tests}
 use Rattle.model.proofs.Tlvs.{bytes-append, bytes-one}
 use Rattle.tlv.specs.Numbers.{numAt}
 use Rattle.tlv.specs.Rows.{rows, row, Within, times}
-use Rattle.stored_table.specs.Stored.{noRecord, keyIdAt, mixedAt, nameAt, besideName, nameSize, recordAt, Stands, StoredAt, AllStand, tableIn, starts, Indexed}
+use Rattle.stored_table.specs.Stored.{noRecord, keyIdAt, mixedAt, nameAt, besideName, nameSize, recordAt, Stands, AllStand, tableIn, starts, Indexed}
 
 -- ---- the bytes of a stored record
 
@@ -101,12 +101,11 @@ past p n q s x rest g e d = rw g (sym (drop-drop n p s) ∙ ap (drop n) d ∙ dr
 
 -- ---- what stands at its place
 
--- this record stands at a place, as it is stored
+-- this record stands at a place
 pub record RecordIs (table : List ℕ) (place : ℕ) (r : model.Record) : Type 0 where
   pub is : recordAt table place ≡ r
   pub size : nameSize table place ≡ length (r .name)
   pub stands : Stands table place
-  pub stored : StoredAt table place
 
 -- how long a stored record is
 pub length-one : (r : model.Record) (t : model.Table) → RecordRules r
@@ -173,15 +172,7 @@ module _ (table : List ℕ) (place : ℕ) (r : model.Record) (t : model.Table) (
       omega arith
 
   stands-there : place ≤ length table → RecordIs table place r
-  stands-there k =
-      let e : encode (r ∷ t) ≡ encode (r ∷ []) ++ encode t = encode-append (r ∷ []) t in
-      let l : length (encode (r ∷ [])) ≡ besideName + n = length-one r [] h ∙ (unfold encode in omega arith) in
-      record {
-        is = record-is;
-        size = name-size;
-        stands = rw name-size (omega (arith, length-there k));
-        stored = rw (name-size, record-is, d ∙ e) (take-at (encode (r ∷ [])) (encode t) (besideName + n) l);
-      }
+  stands-there k = record { is = record-is; size = name-size; stands = rw name-size (omega (arith, length-there k)) }
 
 -- how long the name, the KeyID and the mixed token of the record at a place are
 module _ (table : List ℕ) (place : ℕ) (h : Stands table place) where

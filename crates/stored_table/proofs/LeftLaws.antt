@@ -6,8 +6,8 @@ use mathlib.Core.List.{List, [], _∷_, _++_, append-assoc}
 use Prim.Native.Nat.{ℕ, suc, _+_, _-_, _≤_, _<_}
 use native.Mathlib.Numerals.{add-one}
 use native.Mathlib.Omega.{arith}
-use lib.ListN.{length, getD, take, drop, set, length-append, length-drop}
-use lib.Seq.{length-take-le, take-suc, take-all, take-at, drop-at, take-append-le, drop-append-le, set-split, split-at}
+use lib.ListN.{length, getD, take, drop, set, length-append, length-drop, take-append-drop, drop-of-length-le}
+use lib.Seq.{length-take-le, drop-cons, take-add, take-all, take-at, drop-at, take-append-le, drop-append-le, set-split, split-at}
 use Rattle.model.specs.Lists.{select}
 use Rattle.model.specs.Tlv.{le, tlv, bytes, header, pairTag}
 use Rattle.model.specs.Records as model
@@ -20,8 +20,8 @@ use Rattle.model.proofs.StoredForm.{length-records}
 use Rattle.tlv.specs.Writing.{Wrote}
 use Rattle.tlv.proofs.WriteLaws.{then, then-run, then-value, same, front, from-front, wrote-none}
 use Rattle.stored_table.specs.Stored.{besideName, countAt, recordOf, noRecord, recordAt, tableIn, Indexed}
-use Rattle.stored_table.specs.Changes.{goes, removal, stayingOf}
-use Rattle.stored_table.proofs.IndexLaws.{inside, upTo, encode-one, encode-append, encode-count, length-upTo, record-at, numbered, place-is}
+use Rattle.stored_table.specs.Changes.{goes, removal, stayingOf, stayFirst}
+use Rattle.stored_table.proofs.IndexLaws.{inside, upTo, encode-one, encode-append, encode-count, length-upTo, record-at, numbered, place-is, length-places}
 use Rattle.stored_table.proofs.ChangeLaws.{stays, removal-selects}
 
 -- ---- a record
@@ -117,6 +117,52 @@ module _ {table places : List ℕ} (x : Indexed table places) (i : ℕ) (h : i <
 
 -- ---- records less
 
+-- what stands after the first i records
+behind-is : (t : model.Table) (i k : ℕ) → take (length (encode (take k (drop i t)))) (drop (length (encode (take i t))) (encode t)) ≡ encode (take k (drop i t))
+behind-is t i k =
+    let b : List ℕ = encode (take i t) in
+    let c : List ℕ = encode (take k (drop i t)) in
+    let w : encode t ≡ b ++ encode (drop i t) = ap encode (sym (take-append-drop i t)) ∙ encode-append (take i t) (drop i t) in
+    let v : encode (drop i t) ≡ c ++ encode (drop k (drop i t)) =
+    ap encode (sym (take-append-drop k (drop i t))) ∙ encode-append (take k (drop i t)) (drop k (drop i t)) in
+    rw (w, drop-at b (encode (drop i t)) (length b) refl, v) (take-at c _ (length c) refl)
+
+module _ {table places : List ℕ} (x : Indexed table places) where
+  -- where the table ends
+  pub end-is : (j : ℕ) → length places ≤ j → length table ≡ length (encode (take j (tableIn table)))
+  end-is j h = ap length (sym (x .whole)) ∙ rw (take-all j (tableIn table) (omega (arith, length-places x)))
+
+  -- the records from i up to j, where they are stored
+  module _ (i j : ℕ) (h : i ≤ j) where
+    up-to : length (encode (take j (tableIn table))) ≡ length (encode (take i (tableIn table))) + length (encode (take (j - i) (drop i (tableIn table))))
+    up-to =
+        let t = tableIn table in
+        let e : j ≡ i + (j - i) = omega arith in
+        ap (λ n. length (encode (take n t))) e
+        ∙ ap length (ap encode (take-add i (j - i) t) ∙ encode-append (take i t) (take (j - i) (drop i t)))
+        ∙ length-append (encode (take i t)) (encode (take (j - i) (drop i t)))
+
+    pub stored-is : let t = tableIn table in
+        take (length (encode (take j t)) - length (encode (take i t))) (drop (length (encode (take i t))) table) ≡ encode (take (j - i) (drop i t))
+    stored-is =
+        let t = tableIn table in
+        let b : ℕ = length (encode (take i t)) in
+        let e : length (encode (take j t)) - b ≡ length (encode (take (j - i) (drop i t))) = omega (arith, up-to) in
+        ap (λ n. take n (drop b table)) e
+        ∙ ap (λ s. take (length (encode (take (j - i) (drop i t)))) (drop b s)) (sym (x .whole)) ∙ behind-is t i (j - i)
+
+    pub stored-starts : length (encode (take i (tableIn table))) ≤ length (encode (take j (tableIn table)))
+    stored-starts = omega (arith, up-to)
+
+  -- none ends past the table
+  pub stored-ends : (j : ℕ) → length (encode (take j (tableIn table))) ≤ length table
+  stored-ends j =
+      let t = tableIn table in
+      let e : length table ≡ length (encode (take j t)) + length (encode (drop j t)) =
+      ap length (sym (x .whole) ∙ ap encode (sym (take-append-drop j t)) ∙ encode-append (take j t) (drop j t))
+      ∙ length-append (encode (take j t)) (encode (drop j t)) in
+      omega arith
+
 module _ (m key : List ℕ) where
   staying-append : (s t : model.Table) → stayingOf m key (s ++ t) ≡ stayingOf m key s ++ stayingOf m key t
   unfolding stayingOf
@@ -129,38 +175,67 @@ module _ (m key : List ℕ) where
       let ih = staying-most t in
       split (goes m key r) (λ e. rw e (simp length-append (omega (arith, ih)))) (λ e. rw e (simp length-append (omega (arith, ih))))
 
-  -- a record goes, and nothing is written
-  pub wrote-gone : (r : model.Record) {g : Bool} {d : List ℕ} {at : ℕ} → g ≡ goes m key r → g ≡ true → at ≤ length d
-      → Wrote d at (stayingOf m key (r ∷ [])) (length (stayingOf m key (r ∷ []))) d at
-  unfolding stayingOf encode
-  wrote-gone r e f h = rw (← e, f) (wrote-none _ _ h)
+  -- those that stay before the first that goes are all that stays up to it
+  staying-run : (t : model.Table) → stayingOf m key (take (suc (stayFirst m key t)) t) ≡ encode (take (stayFirst m key t) t)
+  unfolding stayingOf stayFirst
+  staying-run [] = refl
+  staying-run (r ∷ rs) =
+      let k = stayFirst m key rs in
+      split (goes m key r) (λ e. rw e)
+      (λ e. rw e
+      (encode-append (r ∷ []) (select (stays m key) (take (suc k) rs)) ∙ ap (λ u. encode (r ∷ []) ++ u) (staying-run rs) ∙ sym (encode-append (r ∷ []) (take k rs))))
 
-  -- it stays, and is written as it is stored
-  pub wrote-staying : (r : model.Record) {g : Bool} {s u : List ℕ} {d d′ : List ℕ} {at n e : ℕ} → g ≡ goes m key r → g ≡ false
-      → s ≡ u → u ≡ encode (r ∷ []) → Wrote d at s n d′ e
-      → Wrote d at (stayingOf m key (r ∷ [])) (length (stayingOf m key (r ∷ []))) d′ e
-  unfolding stayingOf
-  wrote-staying r e f i j p = rw (← e, f, ← j, ← i) (same refl (sym (p .size)) p)
+  stay-most : (t : model.Table) → stayFirst m key t ≤ length t
+  unfolding stayFirst
+  stay-most [] = omega arith
+  stay-most (r ∷ rs) = split (goes m key r) (λ e. rw e (omega arith)) (λ e. rw e (omega (arith, stay-most rs)))
+
+  -- the next that goes is one of them, or none
+  pub next-within : {table places : List ℕ} → Indexed table places → (i : ℕ) → i ≤ length places
+      → i + stayFirst m key (drop i (tableIn table)) ≤ length places
+  next-within {table} x i h = omega (arith, stay-most (drop i (tableIn table)), length-drop i (tableIn table), length-places x)
+
+  -- of the records from j on the first goes, or stays
+  module _ {table places : List ℕ} (x : Indexed table places) (j : ℕ) (h : j < length places) {g : Bool}
+      (e : g ≡ goes m key (recordAt table (getD places j 0))) where
+    from-here : drop j (tableIn table) ≡ recordAt table (getD places j 0) ∷ drop (suc j) (tableIn table)
+    from-here = drop-cons (tableIn table) j noRecord (numbered x j h) ∙ rw (record-at x j h .is)
+
+    pub goes-here : g ≡ true → stayFirst m key (drop j (tableIn table)) ≡ 0
+    unfolding stayFirst
+    goes-here f = rw (from-here, ← e, f)
+
+    pub stays-here : g ≡ false → stayFirst m key (drop j (tableIn table)) ≡ suc (stayFirst m key (drop (j + 1) (tableIn table)))
+    unfolding stayFirst
+    stays-here f = rw (from-here, ← e, f, add-one)
+
+  -- none is left
+  pub none-here : {table places : List ℕ} → Indexed table places → (j : ℕ) → length places ≤ j → stayFirst m key (drop j (tableIn table)) ≡ 0
+  unfolding stayFirst
+  none-here {table} x j h = rw (drop-of-length-le (tableIn table) {i = j} (omega (arith, length-places x)))
 
   -- nothing written yet
   pub left-none : (d : List ℕ) (t : model.Table) → Wrote d 0 (stayingOf m key (take 0 t)) 0 d 0
   unfolding stayingOf encode
   left-none d t = wrote-none d 0 (omega arith)
 
-  module _ {table places : List ℕ} (x : Indexed table places) (i : ℕ) (h : i < length places) {d d₁ : List ℕ} {e₁ : ℕ}
+  module _ {table places : List ℕ} (x : Indexed table places) (i : ℕ) {d d₁ : List ℕ} {e₁ : ℕ}
       (p : Wrote d 0 (stayingOf m key (take i (tableIn table))) e₁ d₁ e₁) where
-    -- what is written is no longer than what is gone through
-    pub left-room : e₁ ≤ getD places i 0
-    left-room = omega (arith, p .size, place-is x i h, staying-most (take i (tableIn table)))
+    -- what is written is no longer than what is gone through, and there is room for the next
+    pub left-room : {j n : ℕ} → i ≤ j → length table ≤ n → e₁ + length (encode (take (j - i) (drop i (tableIn table)))) ≤ n
+    left-room {j} b l = omega (arith, p .size, staying-most (take i (tableIn table)), up-to x i j b, stored-ends x j)
 
-    -- one record more
-    pub left-more : {d₂ : List ℕ} {e₂ : ℕ} → let s = stayingOf m key (recordAt table (getD places i 0) ∷ []) in
-        Wrote d₁ e₁ s (length s) d₂ e₂
-        → Wrote d 0 (stayingOf m key (take (i + 1) (tableIn table))) e₂ d₂ e₂
-    left-more q =
+    -- those that stay before the next that goes
+    pub left-more : {j n : ℕ} {d₂ : List ℕ} {e₂ : ℕ} → j ≡ i + stayFirst m key (drop i (tableIn table))
+        → Wrote d₁ e₁ (encode (take (j - i) (drop i (tableIn table)))) n d₂ e₂
+        → Wrote d 0 (stayingOf m key (take (j + 1) (tableIn table))) e₂ d₂ e₂
+    left-more {j} f q =
         let t = tableIn table in
-        let w : stayingOf m key (take i t) ++ stayingOf m key (recordAt table (getD places i 0) ∷ []) ≡ stayingOf m key (take (i + 1) t) =
-        rw (record-at x i h .is, add-one, take-suc t i noRecord (numbered x i h)) (sym (staying-append (take i t) _)) in
+        let k = stayFirst m key (drop i t) in
+        let a : j + 1 ≡ i + suc k = omega arith in
+        let b : j - i ≡ k = omega arith in
+        let w : stayingOf m key (take i t) ++ encode (take (j - i) (drop i t)) ≡ stayingOf m key (take (j + 1) t) =
+        rw (a, b, take-add i (suc k) t, staying-append (take i t) (take (suc k) (drop i t)), staying-run (drop i t)) in
         from-front (same w refl (then p q))
 
   -- all records

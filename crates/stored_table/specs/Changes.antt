@@ -1,8 +1,8 @@
 -- The changes that a command asks for, and what they leave.
 use mathlib.Core.Path.{_≡_}
-use Prim.Native.Nat.{ℕ, _≤_, _<_}
+use Prim.Native.Nat.{ℕ, suc, _≤_, _<_}
 use mathlib.Core.Bool.{Bool, true, not, cond, _&&_, _||_}
-use mathlib.Core.List.{List}
+use mathlib.Core.List.{List, [], _∷_}
 use lib.ListN.{length, getD}
 use Rattle.model.specs.Lists.{select, empty, eqBytes}
 use Rattle.model.specs.Records as model
@@ -26,6 +26,11 @@ goes m key r = hasMixed m r && (empty key || eqBytes (r .keyId) key)
 -- the stored form of those of these records that stay
 unfoldable pub stayingOf : (mixed key : List ℕ) → model.Table → List ℕ
 stayingOf m key rs = encode (select (λ r. not (goes m key r)) rs)
+
+-- how many of these records stay before the first that goes
+unfoldable pub stayFirst : (mixed key : List ℕ) → model.Table → ℕ
+stayFirst m key [] = 0
+stayFirst m key (r ∷ rs) = cond (goes m key r) 0 (suc (stayFirst m key rs))
 
 -- the change that a command s, lent the KeyID k, asks of a table
 abbrev pub changeOf : List ℕ → List ℕ → model.Table → Change → commands.Change

@@ -54,10 +54,7 @@ besideName = nameAt + sizeOf behindName
 abbrev pub nameSize : List ℕ → ℕ → ℕ
 nameSize b p = numAt 2 b (p + (nameAt - 2))
 
--- how long the record is, and where its counter stands
-abbrev pub recordSize : List ℕ → ℕ → ℕ
-recordSize b p = besideName + nameSize b p
-
+-- where its counter stands
 abbrev pub countAt : List ℕ → ℕ → ℕ
 countAt b p = p + (nameAt + 4) + nameSize b p
 
@@ -69,10 +66,6 @@ recordAt b p =
 -- the record at a place lies in the stretch
 abbrev pub Stands : List ℕ → ℕ → Type 0
 Stands b p = p + besideName + nameSize b p ≤ length b
-
--- the bytes of the record at a place are its stored form
-abbrev pub StoredAt : List ℕ → ℕ → Type 0
-StoredAt b p = take (recordSize b p) (drop p b) ≡ encode (recordAt b p ∷ [])
 
 -- the record at each of these places lies in the stretch
 pub record AllStand (table places : List ℕ) : Type 0 where

@@ -1,7 +1,6 @@
 use crate::records::INSIDE_BESIDE_NAME;
 use crate::records::KEY_ID;
 use crate::records::MIXED;
-use crate::records::bytes_of;
 use crate::records::count_place;
 use fields::tags;
 use tlv::heads::Span;
@@ -13,15 +12,15 @@ use tlv::writer::put_header;
 use tlv::writer::put_tlv;
 use tlv::writer::put_tlv32;
 ghost use mathlib.Core.Path.{_≡_};
-ghost use Prim.Native.Nat.{_+_, _≤_, _<_};
+ghost use Prim.Native.Nat.{_+_, _-_, _≤_, _<_};
 ghost use mathlib.Core.Bool.{true};
 ghost use mathlib.Core.List.{[], _∷_};
-ghost use lib.ListN.{length, set, getD};
+ghost use lib.ListN.{length, take, drop, set, getD};
 ghost use Rattle.model.specs.Records.{tableOk, encode, maxStored};
 ghost use Rattle.model.specs.Commands.{apply, add, withCount};
 ghost use Rattle.tlv.specs.Writing.{Wrote};
-ghost use Rattle.stored_table.specs.Stored.{besideName, recordOf, noRecord, Stands, recordSize, recordAt, StoredAt, Indexed, tableIn};
-ghost use Rattle.stored_table.specs.Changes.{goes, removal, stayingOf, changeOf, Can};
+ghost use Rattle.stored_table.specs.Stored.{besideName, recordOf, noRecord, Stands, recordAt, Indexed, tableIn};
+ghost use Rattle.stored_table.specs.Changes.{goes, removal, stayFirst, changeOf, Can};
 
 // What a command changes in the table. A name and a KeyID are parts of the command; an empty KeyID removes all of the mixed token. A record is told by
 // its number, the oldest of all being 0.
@@ -107,28 +106,44 @@ fn is_going(table: &[u8], place: usize, mixed: &[u8], key: &[u8]) -> bool
     row_is(table, place + KEY_ID, key)
 }
 
-// Writes the record at a place, unless it goes.
-fn put_staying(
-    out: &mut [u8],
-    end: usize,
-    table: &[u8],
-    place: usize,
-    mixed: &[u8],
-    key: &[u8],
-) -> usize
-    requires { ⌜ Stands (now table) place × StoredAt (now table) place × (end + recordSize (now table) place ≤ length (now out)) ⌝ }
-    ensures { λ r. ⌜
-        Wrote (now (out .entry)) end (stayingOf (now (mixed .entry)) (now (key .entry)) (recordAt (now (table .entry)) place ∷ []))
-        (length (stayingOf (now (mixed .entry)) (now (key .entry)) (recordAt (now (table .entry)) place ∷ []))) (now (out .exit)) r ⌝ }
+// The number of the first record from i on that goes; if none does, how many there are.
+fn next_going(table: &[u8], places: &[usize], i: usize, mixed: &[u8], key: &[u8]) -> usize
+    requires { ⌜ Indexed (now table) (now places) × (i ≤ length (now places)) ⌝ }
+    ensures { λ r. ⌜ r ≡ i + stayFirst (now (mixed .entry)) (now (key .entry)) (drop i (tableIn (now (table .entry)))) ⌝ }
 {
-    if is_going(table, place, mixed, key) {
-        return end;
+    let mut j = i;
+    while j < places.len() {
+        if is_going(table, places[j], mixed, key) {
+            return j;
+        }
+        j += 1;
     }
-    put_bytes(out, end, bytes_of(table, place))
+    j
+}
+
+// Where record j starts; where the table ends, if there are no more.
+fn start_of(table: &[u8], places: &[usize], j: usize) -> usize
+    requires { ⌜ Indexed (now table) (now places) ⌝ }
+    ensures { λ r. ⌜ r ≡ length (encode (take j (tableIn (now (table .entry))))) ⌝ }
+{
+    if j < places.len() {
+        return places[j];
+    }
+    table.len()
+}
+
+// The stored form of the records from i up to j.
+fn stored_from<'a>(table: &'a [u8], places: &[usize], i: usize, j: usize) -> &'a [u8]
+    requires { ⌜ Indexed (now table) (now places) × (i ≤ j) ⌝ }
+    ensures { λ r. ⌜ now r ≡ encode (take (j - i) (drop i (tableIn (now (table .entry))))) ⌝ }
+{
+    let from = start_of(table, places, i);
+    let to = start_of(table, places, j);
+    &table[from..to]
 }
 
 // The table without the record of a mixed token that has this KeyID or, if the KeyID is empty, without all of the mixed token's. The rest keeps its
-// order and closes the gap.
+// order and closes the gap: what stands between two records that go is written at once.
 fn put_removed(out: &mut [u8], table: &[u8], places: &[usize], mixed: &[u8], key: &[u8]) -> usize
     requires { ⌜ Indexed (now table) (now places) × (length (now table) ≤ length (now out)) ⌝ }
     ensures { λ r. ⌜
@@ -138,8 +153,9 @@ fn put_removed(out: &mut [u8], table: &[u8], places: &[usize], mixed: &[u8], key
     let mut end = 0;
     let mut i = 0;
     while i < places.len() {
-        end = put_staying(out, end, table, places[i], mixed, key);
-        i += 1;
+        let j = next_going(table, places, i, mixed, key);
+        end = put_bytes(out, end, stored_from(table, places, i, j));
+        i = j + 1;
     }
     end
 }

@@ -2,8 +2,7 @@ use tlv::numbers::get16;
 use tlv::numbers::get32;
 ghost use mathlib.Core.Path.{_≡_};
 ghost use Prim.Native.Nat.{_+_};
-ghost use lib.ListN.{take, drop};
-ghost use Rattle.stored_table.specs.Stored.{Stands, nameSize, recordSize, countAt, recordAt};
+ghost use Rattle.stored_table.specs.Stored.{Stands, nameSize, countAt, recordAt};
 
 // "The table has at most 32 records".
 pub const MAX_RECORDS: usize = 32;
@@ -42,15 +41,6 @@ pub fn name_len(table: &[u8], place: usize) -> usize
     ensures { λ r. ⌜ r ≡ nameSize (now (table .entry)) place ⌝ }
 {
     get16(table, place + NAME_SIZE)
-}
-
-// The bytes of the record at a place.
-pub fn bytes_of(table: &[u8], place: usize) -> &[u8]
-    requires { ⌜ Stands (now table) place ⌝ }
-    ensures { λ r. ⌜ now r ≡ take (recordSize (now (table .entry)) place) (drop place (now (table .entry))) ⌝ }
-{
-    let end = place + BESIDE_NAME + name_len(table, place);
-    &table[place..end]
 }
 
 // The KeyID of the record at a place.

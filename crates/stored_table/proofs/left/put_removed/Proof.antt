@@ -1,53 +1,66 @@
--- What stays of the first i records is written after i turns, in no more bytes than they have.
-use mathlib.Core.Path.{_≡_, refl}
+-- What stays of the first i records is written after each turn, in no more bytes than they have.
+use mathlib.Core.Path.{_≡_, refl, ap}
 use Prim.Native.Nat.{_-_, _≤_}
 use native.Mathlib.Omega.{arith}
 use lib.ListN.{length, take}
 use borrow.Author.Needs.{needs}
 use denote.Ref.{now}
 use Rattle.tlv.specs.Writing.{Wrote}
+use Rattle.tlv.proofs.WriteLaws.{same}
 use Rattle.stored_table.specs.Stored.{tableIn}
-use Rattle.stored_table.proofs.IndexLaws.{record-at, length-places, few-places}
 use Rattle.stored_table.specs.Changes.{stayingOf}
-use Rattle.stored_table.proofs.LeftLaws.{left-none, left-room, left-more, left-all}
+use Rattle.stored_table.proofs.IndexLaws.{length-places, few-places}
+use Rattle.stored_table.proofs.LeftLaws.{left-none, left-room, left-more, left-all, next-within}
 use Rattle.stored_table.proofs.left.put_removed.Statement.{statement}
 use Rattle.stored_table.proofs.left.put_removed.Tie as tie
 
 abbrev Inv-loop : tie.InvT-loop
 Inv-loop out₀ table places mixed key end₀ i₀ out end i =
-    (i ≤ length places) × (length out ≡ length out₀) × Wrote out₀ 0 (stayingOf mixed key (take i (tableIn table))) end out end
+    (length out ≡ length out₀) × Wrote out₀ 0 (stayingOf mixed key (take i (tableIn table))) end out end
 
 abbrev μ-loop : tie.MeasureT-loop
 μ-loop out₀ table places mixed key end₀ i₀ out end i = length places - i
 
 loop-holds : tie.Need-loop-holds Inv-loop μ-loop
-loop-holds c = (search needs, refl, left-none _ _ _ (tableIn (now (c .before .before .before .before .before .args .table))))
+loop-holds c = (refl, left-none _ _ _ (tableIn (now (c .before .before .before .before .before .args .table))))
 
-mul-put-staying : tie.Need-mul-put-staying Inv-loop μ-loop
-mul-put-staying c = omega (arith, few-places (c .before .before .before .before .before .before .before .before .pre .0))
+next-going-requires : tie.Need-next-going-requires Inv-loop μ-loop
+next-going-requires c κs = (c .before .before .before .before .before .before .before .pre .0, omega arith)
 
-put-staying-requires : tie.Need-put-staying-requires Inv-loop μ-loop
-put-staying-requires c κs =
-    let l = c .before .before .before in
+stored-from-requires : tie.Need-stored-from-requires Inv-loop μ-loop
+stored-from-requires c κs =
+    (c .before .before .before .before .before .before .before .before .before .pre .0, omega (arith, c .before .next-going .ensures))
+
+put-bytes-requires : tie.Need-put-bytes-requires Inv-loop μ-loop
+put-bytes-requires c κs =
+    let l = c .before .before .before .before in
     let s = l .before .before .before .before .before .before in
-    let i = l .loop .i in
-    let r = record-at (s .pre .0) i (omega arith) in
-    (r .stands, r .stored, omega (arith, r .stands, left-room _ _ (s .pre .0) i (omega arith) (l .loop .inv .2), s .pre))
+    let room = left-room (now (s .args .mixed)) (now (s .args .key)) (s .pre .0) (l .loop .i) (l .loop .inv .1) {j = c .before .before .next-going .result} (omega (arith, c .before .before .next-going .ensures)) (s .pre .1) in
+    omega (arith, room, l .loop .inv .0, ap length (c .stored-from .ensures))
+
+add-i : tie.Need-add-i Inv-loop μ-loop
+add-i c =
+    let g = c .before .before .before .before .before in
+    let s = g .before .before .before .before .before .before .before .before in
+    omega (arith, g .next-going .ensures, few-places (s .pre .0), next-within (now (s .args .mixed)) (now (s .args .key)) (s .pre .0) (g .before .before .loop .i) (omega arith))
+
+loop-less : tie.Need-loop-less Inv-loop μ-loop
+loop-less c = let g = c .before .before .before .before .before in omega (arith, g .next-going .ensures)
 
 loop-again : tie.Need-loop-again Inv-loop μ-loop
 loop-again c =
-    let l = c .before .before .before .before .before .before in
+    let p = c .before .before in
+    let g = p .before .before .before in
+    let l = g .before .before in
     let s = l .before .before .before .before .before .before in
-    let more = left-more _ _ (s .pre .0) (l .loop .i) (omega arith) (l .loop .inv .2) (c .before .before .put-staying .ensures) in
-    (search needs, search needs, more)
+    (search needs, left-more (now (s .args .mixed)) (now (s .args .key)) (s .pre .0) (l .loop .i) (l .loop .inv .1) (g .next-going .ensures) (same (p .before .stored-from .ensures) refl (p .put-bytes .ensures)))
 
 returns : tie.Need-returns Inv-loop μ-loop
 returns c =
     let s = c .before .before .before .before .before .before .before in
-    left-all _ _ (tableIn (now (s .args .table))) (c .before .loop .i) (omega (arith, length-places (s .pre .0))) (c .before .loop .inv .2)
+    left-all _ _ (tableIn (now (s .args .table))) (c .before .loop .i) (omega (arith, length-places (s .pre .0))) (c .before .loop .inv .1)
 
 pub put-removed-spec : {M : Type 1} → statement M
 put-removed-spec =
     tie.close
-    (tie.spec Inv-loop μ-loop loop-holds mul-put-staying (λ c. search needs) put-staying-requires (λ c. search needs) (λ c. search needs)
-    loop-again (λ c. search needs) returns)
+    (tie.spec Inv-loop μ-loop loop-holds next-going-requires stored-from-requires put-bytes-requires add-i loop-less loop-again (λ c. search needs) returns)
