@@ -23,11 +23,11 @@ use Rattle.tlv.specs.Heads.{between}
 use Rattle.tlv.proofs.HeadLaws.{IsTlv, head-end, length-part}
 use Rattle.tlv.specs.Rows.{rows, row, Within}
 use Rattle.tlv.proofs.RowLaws.{rows-more, within-more}
-use Rattle.layouts.specs.Places.{nowhere, readsAt, afterField, inGroup, afterGroup}
+use Rattle.layouts.specs.Places.{nowhere, readsAt, afterGroup}
 use Rattle.layouts.proofs.PlaceLaws.{past-head, read-end, read-group, then-field, then-last, from-front, in-before, group-before, field-before}
 use Rattle.layouts.proofs.SizeLaws.{Layered, nothing, one, layered, length-front, parts-front, parts-nothing}
 use Rattle.response_reader.specs.Met.{partAt, met}
-use Rattle.response_reader.specs.Responses.{handles, handlesFrom, KeysAre}
+use Rattle.response_reader.specs.Responses.{Opened, handles, handlesFrom, KeysAre}
 use Rattle.response_reader.specs.declared.names.Keys.{Keys}
 use Rattle.response_reader.proofs.MetLaws.{met-end, met-tlv, walked, parts-met}
 
@@ -232,21 +232,21 @@ any-run p n a (suc k) h f =
     let ih = any-run p n (suc a) k (omega arith) (λ m l u. f m (omega arith) (omega arith)) in
     rw (f a (omega arith) (omega arith), ih) (at-least a n)
 
--- the pairs start at b
-module _ (s : List ℕ) {a b : ℕ} (ea : a ≡ inGroup (responseTag sign) s 0) (eb : b ≡ afterField ok s a) where
-  list-reads : (n : ℕ) → reads (nameList n) s ≡ readsAt (namePairs n) s b
-  list-reads n = sym (from-front (then-last ea (then-field eb (record { given = refl }))))
+-- the pairs start at place 10
+module _ (s : List ℕ) (o : Opened (responseTag sign) s) where
+  list-reads : (n : ℕ) → reads (nameList n) s ≡ readsAt (namePairs n) s 10
+  list-reads n = sym (from-front (then-last (o .inside) (then-field (o .past) (record { given = refl }))))
 
   -- neither the response nor its status is a key handle
-  list-keys : (n : ℕ) → reads (nameList n) s ≡ true → listedKeys s ≡ handlesFrom s b
+  list-keys : (n : ℕ) → reads (nameList n) s ≡ true → listedKeys s ≡ handlesFrom s 10
   unfolding handlesFrom fieldParts readsAt
   list-keys n e =
-      let h : b ≤ length s = leb-true _ _ (and-left (leb b (length s)) _ (sym (list-reads n) ∙ e)) in
-      let j = field-before h ok eb in
-      let i = in-before (omega (arith, j)) (responseTag sign) ea in
+      let h : 10 ≤ length s = leb-true _ _ (and-left (leb 10 (length s)) _ (sym (list-reads n) ∙ e)) in
+      let j = field-before h ok (o .past) in
+      let i = in-before (omega (arith, j)) (responseTag sign) (o .inside) in
       rw (parts-met (nameList n) s (both (pairs-plain n .0) refl) e, met-tlv i, met-tlv j)
 
-  module _ {r : Keys} (k : KeysAre s b r) where
+  module _ {r : Keys} (k : KeysAre s 10 r) where
     list-is : (m : ℕ) → 2 ≤ m → m < 9 → reads (nameList m) s ≡ eqb m (r .len)
     list-is zero l u = absurd (omega arith)
     list-is (suc m) l u = list-reads (suc m) ∙ k .number m (omega arith)

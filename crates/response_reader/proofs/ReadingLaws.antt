@@ -1,7 +1,7 @@
--- What the walk of a stretch finds: the first signed structure, and the fields with their columns. What the reader's calls give of them.
+-- What the walk of a stretch finds: that its signed structure lies in it, and the fields with their columns. What the reader's calls give of them.
 -- Assumes nothing.
 use mathlib.Core.Path.{_≡_, refl, ap, _∙_}
-use mathlib.Core.Bool.{Bool, true, false, not, cond, _&&_}
+use mathlib.Core.Bool.{true, false, not, cond, _&&_}
 use mathlib.Core.List.{List, [], _∷_, _++_, map, append-assoc, append-nil}
 use Prim.Native.Nat.{ℕ, zero, suc, _+_, _-_, _≤_, _<_}
 use native.Mathlib.Omega.{arith}
@@ -9,70 +9,38 @@ use lib.ListN.{length, take, drop, set, length-append}
 use lib.Seq.{take-all, length-take-le}
 use lib.Dec.{leb}
 use borrow.Author.Tests.{leb-true}
-use Rattle.model.specs.Lists.{all, any, select, first}
-use Rattle.model.specs.Tlv.{num, le}
-use Rattle.model.specs.Layouts.{Layout, size, reads}
+use Rattle.model.specs.Lists.{select}
+use Rattle.model.specs.Tlv.{num}
+use Rattle.model.specs.Layouts.{size}
 use Rattle.model.specs.Commands.{gave}
-use Rattle.model.specs.Reader.{Part, holds, parts, fieldParts, responses, isResponse, Stretch, stretch, signedPart, readResponse, isSigned}
+use Rattle.model.specs.Reader.{Part, holds, parts, fieldParts, isResponse, Stretch, signedPart, readResponse, isSigned}
 use Rattle.model.proofs.Basics.{split, and-left, and-right}
 use Rattle.model.proofs.PartLaws.{honest}
 use Rattle.model.proofs.Refusals.{reads-response}
-use Rattle.model.proofs.LayoutWritten.{all-member, any-found}
 use Rattle.tlv.specs.Numbers.{numAt, NumberAt}
 use Rattle.tlv.specs.Heads.{part}
 use Rattle.tlv.specs.Spans.{span, Inside}
 use Rattle.tlv.specs.declared.heads.Span.{Span}
 use Rattle.tlv.proofs.HeadLaws.{IsTlv}
 use Rattle.tlv.specs.Firsts.{firsts}
-use Rattle.layouts.proofs.SizeLaws.{least, reads-least, fields-number}
+use Rattle.layouts.proofs.SizeLaws.{fields-number}
 use Rattle.response_reader.specs.Met.{partAt, metPast, met, fieldsMet, spanOf, signedMet}
-use Rattle.response_reader.specs.Readings.{column, partsOf, readingOf, refusalOf, signedBytes}
-use Rattle.response_reader.specs.declared.readings.Parts.{Parts}
+use Rattle.response_reader.specs.Readings.{column, Columns, columns, partsOf, left, readingOf, refusalOf, signedBytes}
 use Rattle.response_reader.proofs.MetLaws.{met-tlv, parts-met}
+use Rattle.response_reader.proofs.ShapeLaws.{response-read}
+use Rattle.response_reader.proofs.SignedLaws.{firstSigned}
 
--- ---- the first signed structure
+-- ---- the first signed structure lies in the stretch
 
--- of some parts
-abbrev pub firstSigned : List Part → Stretch
-firstSigned ps = stretch (first (select (λ p. isSigned (p .tag)) ps))
-
-abbrev signedOf : List Part → Span
-signedOf ps = spanOf (firstSigned ps)
-
--- that is met from a place on
-unfoldable pub signedFrom : List ℕ → ℕ → Span
-signedFrom s at = signedOf (met s at)
-
-pub signed-start : (s : List ℕ) → signedMet s ≡ signedFrom s 0
-unfolding signedFrom
-signed-start s = refl
-
-pub signed-none : (s : List ℕ) (at : ℕ) → met s at ≡ [] → signedFrom s at ≡ span 0 0
-unfolding signedFrom
-signed-none s at e = rw e
-
-module _ {s : List ℕ} {at tag start end : ℕ} (i : IsTlv s at tag start end) where
-  pub signed-here : isSigned tag ≡ true → signedFrom s at ≡ span at end
-  unfolding signedFrom
-  signed-here e =
-      let x : start - 4 ≡ at = omega (arith, i) in
-      let y : at + (end - start + 4) ≡ end = omega (arith, i) in
-      rw (met-tlv i, e, x, y)
-
-  pub signed-later : {b : Bool} → isSigned tag ≡ false → holds tag ≡ b → signedFrom s at ≡ signedFrom s (cond b start end)
-  unfolding signedFrom
-  signed-later e f = rw (met-tlv i, e, f)
-
--- it lies in the stretch
 none-inside : (s : List ℕ) → Inside s (span 0 0)
 none-inside s = record { ordered = omega arith; within = omega arith }
 
-more-inside : (s : List ℕ) (t at n : ℕ) (ps : List Part) → at + 4 + n ≤ length s → Inside s (signedOf ps)
-    → Inside s (signedOf (partAt t (at + 4) n ∷ ps))
+more-inside : (s : List ℕ) (t at n : ℕ) (ps : List Part) → at + 4 + n ≤ length s → Inside s (spanOf (firstSigned ps))
+    → Inside s (spanOf (firstSigned (partAt t (at + 4) n ∷ ps)))
 more-inside s t at n ps h i =
     split (isSigned t) (λ e. rw e (record { ordered = omega arith; within = omega arith })) (λ e. rw e i)
 
-past-inside : (s : List ℕ) (k at : ℕ) (l : List ℕ) → at + length l ≡ length s → Inside s (signedOf (metPast k at l))
+past-inside : (s : List ℕ) (k at : ℕ) (l : List ℕ) → at + length l ≡ length s → Inside s (spanOf (firstSigned (metPast k at l)))
 unfolding metPast
 past-inside s zero at [] h = none-inside s
 past-inside s zero at (a ∷ []) h = none-inside s
@@ -164,8 +132,8 @@ module _ {s tags places lengths : List ℕ} {len at : ℕ} (g : Listed s tags pl
           lengths-are = rw (g .lengths-are, ← g .number) (column-more _ 17 (g .so-far) p n);
         }
 
-  abbrev made : Parts
-  made = record { tags = tags; places = places; lengths = lengths; len = len }
+  abbrev made : Columns
+  made = columns tags places lengths len
 
   -- the columns are those of all fields, where no more are met, or where they are full
   pub listed-all : met s at ≡ [] → made ≡ partsOf (fieldsMet s)
@@ -195,20 +163,6 @@ module _ {s tags places lengths : List ℕ} {len at : ℕ} (g : Listed s tags pl
 
 -- ---- what the calls give
 
--- what every response passes holds of the layout that reads it
-response-read : (q : Layout → Bool) (s : List ℕ) → all q responses ≡ true → isResponse s ≡ true
-    → (l : Layout) × (q l ≡ true) × (reads l s ≡ true)
-unfolding isResponse
-response-read q s a e =
-    let (l, m, r) = any-found (λ l. reads l s) responses (and-left (any (λ l. reads l s) responses) _ e) in
-    (l, all-member q m a, r)
-
-pub response-length : (s : List ℕ) → isResponse s ≡ true → 10 ≤ length s
-unfolding le
-response-length s e =
-    let (l, k, r) = response-read (λ l. leb 10 (least l)) s refl e in
-    omega (arith, leb-true 10 (least l) k, reads-least l s r)
-
 response-parts : (s : List ℕ) → isResponse s ≡ true → parts s ≡ met s 0
 response-parts s e = let (l, k, r) = response-read (honest 5) s refl e in parts-met l s k r
 
@@ -226,11 +180,6 @@ pub read-signed : (s : List ℕ) {p : Span} → isResponse s ≡ true → p ≡ 
     → (part s p ≡ signedBytes (readResponse s) s) × (0 ≡ refusalOf (readResponse s))
 read-signed s e f = rw (response-is s e, f) (part-stretch s (firstSigned (met s 0)), refl)
 
-pub read-fields : {s : List ℕ} {t status : ℕ} {ps : Parts} → isResponse s ≡ true → NumberAt 2 s 0 t → NumberAt 2 s 8 status
-    → ps ≡ partsOf (fieldsMet s) → record { refusal = 0; tag = t; status = status; parts = ps } ≡ readingOf (readResponse s)
-unfolding readingOf
-read-fields {s} e n m f = rw (response-is s e, n .value, m .value, f)
-
 -- a response has at most 17 fields
 pub few-fields : (s : List ℕ) → isResponse s ≡ true → length (fieldsMet s) ≤ 17
 unfolding fieldParts
@@ -239,3 +188,20 @@ few-fields s e =
     let n : length (fieldParts s) ≡ size l = fields-number l s (and-left (honest 5 l) _ k) r in
     let m : length (fieldsMet s) ≡ size l = rw (response-parts s e) at n in
     omega (arith, m, leb-true (size l) 17 (and-right (honest 5 l) _ k))
+
+pub read-fields : (ts ps ls : List ℕ) {s tags places lengths : List ℕ} {t status n : ℕ} → isResponse s ≡ true → NumberAt 2 s 0 t
+    → NumberAt 2 s 8 status → columns tags places lengths n ≡ partsOf (fieldsMet s)
+    → left (record { refusal = 0; tag = t; status = status; count = n }) tags places lengths ≡ readingOf (readResponse s) ts ps ls
+unfolding readingOf partsOf
+read-fields ts ps ls {s} {n = n} e k m f =
+    let a : n ≡ length (fieldsMet s) =
+    ap (λ (c : Columns). c .len) f ∙ ap length (take-all 17 (fieldsMet s) (few-fields s e)) in
+    rw (
+      response-is s e,
+      k .value,
+      m .value,
+      a,
+      ap (λ (c : Columns). c .tags) f,
+      ap (λ (c : Columns). c .places) f,
+      ap (λ (c : Columns). c .lengths) f,
+    )

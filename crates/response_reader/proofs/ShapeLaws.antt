@@ -1,33 +1,36 @@
--- Which layouts of responses can read a stretch: by how its shapes are read from place to place, by its outer tag, and by its key handles.
+-- Which layouts of responses can read a stretch: by how its shapes are read from place to place, by its length, its outer tag and its status, and
+-- by its key handles.
 -- Assumes nothing.
-use mathlib.Core.Path.{_≡_, refl, sym, ap, _∙_}
-use mathlib.Core.Bool.{Bool, true, false, not, _&&_, _||_, or-false, or-assoc}
-use mathlib.Core.List.{List, [], _∷_, _++_}
+use mathlib.Core.Path.{_≡_, refl, ap, subst, _∙_}
+use mathlib.Core.Bool.{Bool, true, false, not, _&&_, _||_, or-false}
+use mathlib.Core.List.{List, [], _∷_, _++_, map}
 use Prim.Native.Nat.{ℕ, _≤_, _<_}
 use native.Mathlib.Omega.{arith}
-use lib.ListN.{length}
-use lib.Dec.{eqb}
-use borrow.Author.Tests.{eq-eqb, ne-eqb}
+use lib.ListN.{length, getD}
+use lib.Dec.{leb, ltb, eqb}
+use borrow.Author.Tests.{le-leb, eq-eqb, ne-eqb}
 use Rattle.model.specs.Lists.{all, any, select, distinct}
-use Rattle.model.specs.Tlv.{Kind, getInfo, register, sign, deregister, openSettings, kinds, signature, certificate, full, surrogate, responseTag}
+use Rattle.model.specs.Tlv.{Kind, getInfo, register, sign, deregister, openSettings, kinds, le, ok, signature, certificate, full, surrogate, responseTag, fits}
 use Rattle.model.specs.Layouts.{Layout, reads}
-use Rattle.model.specs.Commands.{statusOnly, info, nameList}
+use Rattle.model.specs.Commands.{statuses, statusOnly, info, nameList}
 use Rattle.model.specs.Reader.{asserted, registered, signed, responses, holds, parts, fieldParts, listedKeys, isResponse, isHandle, listLengths}
-use Rattle.model.proofs.Basics.{split, and-left, and-right, select-comm, NoneOf}
+use Rattle.model.proofs.Basics.{split, clash, and-left, and-right, both, select-comm, NoneOf}
+use Rattle.model.proofs.LayoutLaws.{most}
 use Rattle.model.proofs.PartLaws.{honest, lacks}
 use Rattle.model.proofs.LayoutWritten.{all-member, any-found, outerTag}
 use Rattle.tlv.specs.Numbers.{numAt}
-use Rattle.layouts.proofs.PlaceLaws.{Gives, then-field, then-last}
-use Rattle.layouts.proofs.SizeLaws.{Layered, nothing, one, many, layered, length-front, lacks-none}
-use Rattle.response_reader.specs.Responses.{inAssertion}
+use Rattle.layouts.proofs.PlaceLaws.{Gives, then-field, then-last, in-before}
+use Rattle.layouts.proofs.SizeLaws.{Layered, nothing, one, many, layered, least, reads-least, reads-most, lacks-none}
+use Rattle.response_reader.specs.Responses.{headed, alone, Opened, Longer, inAssertion}
+use Rattle.response_reader.proofs.OpeningLaws.{Headed, answers, answered-headed, statusIn, fitsFirst, layered-fits, status-is, alone-reads}
 
 -- ---- a completed response
 
 -- what the assertion holds is read on from its place
-pub then-assertion : {s : List ℕ} {l : Layout} {outer assertion next : ℕ} {r : Bool} → next ≡ inAssertion outer assertion s
+pub then-assertion : {s : List ℕ} {l : Layout} {outer assertion next : ℕ} {r : Bool} → Opened outer s → next ≡ inAssertion assertion s
     → Gives l s next r → Gives (asserted outer assertion l) s 0 r
 unfolding inAssertion
-then-assertion e g = then-last refl (then-field refl (then-last refl (then-last e g)))
+then-assertion o e g = then-last (o .inside) (then-field (o .past) (then-last refl (then-last e g)))
 
 -- two tests, one after the other
 pub either-is : {a b x y : Bool} → a ≡ x → b ≡ y → (a || b) ≡ (x || y)
@@ -53,35 +56,11 @@ anyReads s ls = any (λ l. reads l s) ls
 
 -- ---- the outer tag
 
--- only layouts that begin with this tag can read a stretch
-pub record Outer (s : List ℕ) (t : ℕ) : Type 0 where
-  pub only : (l : Layout) → reads l s ≡ true → t ≡ outerTag l
-
 layered-tag : {l : Layout} {s : List ℕ} → 4 ≤ length s → Layered l s → numAt 2 s 0 ≡ outerTag l
 unfolding numAt
 layered-tag h nothing = absurd (omega arith)
 layered-tag h (one p e f r) = rw (p .spelled) (p .tag-is ∙ e)
 layered-tag h (many p e q r) = rw (p .spelled) (p .tag-is ∙ e)
-
--- the number in the first two bytes, where there is room for a header
-pub outer-tag : {s : List ℕ} {t : ℕ} → 4 ≤ length s → t ≡ numAt 2 s 0 → Outer s t
-outer-tag {s} h e = record { only = λ l r. e ∙ layered-tag h (layered l s r) }
-
--- where there is none, only the layout of nothing, which has no tag
-layered-short : {l : Layout} {s : List ℕ} → length s < 4 → Layered l s → 0 ≡ outerTag l
-layered-short h nothing = refl
-layered-short h (one p e f r) = absurd (omega (arith, length-front p))
-layered-short h (many p e q r) = absurd (omega (arith, length-front p))
-
-outer-short : {s : List ℕ} → length s < 4 → Outer s 0
-outer-short {s} h = record { only = λ l r. layered-short h (layered l s r) }
-
--- those of a list that begin with a tag
-abbrev tagged : ℕ → List Layout → List Layout
-tagged t ls = select (λ l. eqb t (outerTag l)) ls
-
-tagged-only : {s : List ℕ} {t : ℕ} → Outer s t → (ls : List Layout) → anyReads s ls ≡ anyReads s (tagged t ls)
-tagged-only {s} {t} o ls = any-narrow (λ l. reads l s) (λ l. eqb t (outerTag l)) (λ l r. eq-eqb t (outerTag l) (o .only l r)) ls
 
 -- ---- responses with names and without
 
@@ -124,42 +103,126 @@ response-apart s =
 
 -- ---- whether a stretch is a response
 
-by-tag : {s : List ℕ} {t : ℕ} → Outer s t
-    → isResponse s ≡ (anyReads s (tagged t plain) || (anyReads s (tagged t lists) && distinct (listedKeys s)))
-by-tag {s} o = response-apart s ∙ rw (tagged-only o plain, tagged-only o lists)
+-- where only layouts that pass a test can read it
+by-test : (s : List ℕ) (q : Layout → Bool) → ((l : Layout) → reads l s ≡ true → q l ≡ true)
+    → isResponse s ≡ (anyReads s (select q plain) || (anyReads s (select q lists) && distinct (listedKeys s)))
+by-test s q f = response-apart s ∙ rw (any-narrow (λ l. reads l s) q f plain, any-narrow (λ l. reads l s) q f lists)
 
-pub short-is : (s : List ℕ) → length s < 4 → isResponse s ≡ false
-short-is s h = by-tag (outer-short h)
+-- what every response passes holds of the layout that reads it
+pub response-read : (q : Layout → Bool) (s : List ℕ) → all q responses ≡ true → isResponse s ≡ true
+    → (l : Layout) × (q l ≡ true) × (reads l s ≡ true)
+unfolding isResponse
+response-read q s a e =
+    let (l, m, r) = any-found (λ l. reads l s) responses (and-left (any (λ l. reads l s) responses) _ e) in
+    (l, all-member q m a, r)
 
-pub other-is : {s : List ℕ} {t : ℕ} → Outer s t → NoneOf responseTag (Unit {0}) t kinds → isResponse s ≡ false
-other-is o n =
-    by-tag o
-    ∙ simp (
-      ne-eqb _ _ (n .1),
-      ne-eqb _ _ (n .0 .1),
-      ne-eqb _ _ (n .0 .0 .1),
-      ne-eqb _ _ (n .0 .0 .0 .1),
-      ne-eqb _ _ (n .0 .0 .0 .0 .1),
+pub response-headed : (s : List ℕ) → isResponse s ≡ true → headed s ≡ true
+response-headed s e = let (l, k, r) = response-read answers s refl e in answered-headed (layered l s r) k
+
+pub unheaded-is : (s : List ℕ) → headed s ≡ false → isResponse s ≡ false
+unheaded-is s h = split (isResponse s) (λ e. clash (response-headed s e) h) (λ e. e)
+
+-- ---- a status alone
+
+-- a number that was compared with some and is none of them
+kept : (K : Type 0) (n : ℕ) (ns : List ℕ) → NoneOf (λ m. m) K n ns → K
+kept K n [] h = h
+kept K n (m ∷ ns) h = kept (K × (n ≡ m → ⊥)) n ns h .0
+
+none-of : (K : Type 0) (n : ℕ) (ns : List ℕ) → NoneOf (λ m. m) K n ns → any (eqb n) ns ≡ false
+none-of K n [] h = refl
+none-of K n (m ∷ ns) h =
+    let L : Type 0 = K × (n ≡ m → ⊥) in
+    rw (ne-eqb n m (kept L n ns h .1), none-of L n ns h)
+
+pub none-among : (n : ℕ) (ns : List ℕ) → NoneOf (λ m. m) (Unit {0}) n ns → any (eqb n) ns ≡ false
+none-among n ns h = none-of (Unit {0}) n ns h
+
+-- the command is known by its tag
+pub alone-at : {t : ℕ} (n : ℕ) {b : Bool} (k : Kind) → t ≡ responseTag k → b ≡ any (eqb n) (statuses k) → b ≡ alone t n
+unfolding alone
+alone-at n getInfo e f = f ∙ rw e (simp or-false)
+alone-at n register e f = f ∙ rw e (simp or-false)
+alone-at n sign e f = f ∙ rw e (simp or-false)
+alone-at n deregister e f = f ∙ rw e (simp or-false)
+alone-at n openSettings e f = f ∙ rw e (simp or-false)
+
+pub alone-none : {t : ℕ} (n : ℕ) → NoneOf responseTag (Unit {0}) t kinds → alone t n ≡ false
+unfolding alone
+alone-none n h =
+    simp (
+      ne-eqb _ _ (h .1),
+      ne-eqb _ _ (h .0 .1),
+      ne-eqb _ _ (h .0 .0 .1),
+      ne-eqb _ _ (h .0 .0 .0 .1),
+      ne-eqb _ _ (h .0 .0 .0 .0 .1),
     )
 
--- what a command's responses can be besides a status
-abbrev pub more : Kind → List ℕ → Bool
-more getInfo s = reads info s
-more register s = reads (registered full (signature ∷ certificate ∷ [])) s || reads (registered surrogate (signature ∷ [])) s
-more sign s =
-    (reads (signed true) s || reads (signed false) s)
-    || (any (λ n. reads (nameList n) s) listLengths && distinct (listedKeys s))
-more deregister s = false
-more openSettings s = false
+any-as : (p : Layout → Bool) (f : Kind → Layout) (q : Kind → Bool) → ((k : Kind) → p (f k) ≡ q k) → (ks : List Kind)
+    → any p (map f ks) ≡ any q ks
+any-as p f q h [] = refl
+any-as p f q h (k ∷ ks) = rw (h k, any-as p f q h ks)
 
-kind-is : {s : List ℕ} {t : ℕ} (k : Kind) → Outer s t → t ≡ responseTag k → isResponse s ≡ (reads (statusOnly k) s || more k s)
-kind-is getInfo o e = by-tag o ∙ rw e (simp or-false)
-kind-is register o e = by-tag o ∙ rw e (simp or-false)
-kind-is sign o e = by-tag o ∙ rw e (simp (or-false, or-assoc))
-kind-is deregister o e = by-tag o ∙ rw e (simp or-false)
-kind-is openSettings o e = by-tag o ∙ rw e (simp or-false)
+few-statuses : (k : Kind) → all (λ n. ltb n 256) (statuses k) ≡ true
+few-statuses getInfo = refl
+few-statuses register = refl
+few-statuses sign = refl
+few-statuses deregister = refl
+few-statuses openSettings = refl
 
--- where a and b are what the test of the status and the tests after it gave
-pub of-kind : {s : List ℕ} {t : ℕ} {a b : Bool} (k : Kind) → Outer s t → t ≡ responseTag k → a ≡ reads (statusOnly k) s → b ≡ more k s
-    → (a || b) ≡ isResponse s
-of-kind k o e p q = either-is p q ∙ sym (kind-is k o e)
+alone-read : {s : List ℕ} → Headed s → length s ≡ 10 → getD s 8 0 < 256 → anyReads s (map statusOnly kinds) ≡ alone (numAt 2 s 0) (numAt 2 s 8)
+unfolding alone
+alone-read {s} h n b =
+    any-as (λ l. reads l s) statusOnly _
+    (λ k. alone-reads h (responseTag k) (statuses k) n
+    ∙ ap (λ (x : Bool). eqb (numAt 2 s 0) (responseTag k) && x) (status-is s (statuses k) (h .long) b (few-statuses k)))
+    kinds
+
+-- ten bytes are too few for anything else
+pub alone-any : (s : List ℕ) → length s ≡ 10 → isResponse s ≡ anyReads s (map statusOnly kinds)
+unfolding le
+alone-any s n =
+    by-test s (λ l. leb (least l) 10) (λ l r. le-leb (least l) 10 (omega (arith, reads-least l s r))) ∙ or-false _
+
+pub alone-is : {s : List ℕ} → Headed s → length s ≡ 10 → getD s 8 0 < 256 → isResponse s ≡ alone (numAt 2 s 0) (numAt 2 s 8)
+alone-is {s} h n b = alone-any s n ∙ alone-read h n b
+
+-- ---- more than a status
+
+-- more follows status OK alone
+pub status-bad : {s : List ℕ} → Headed s → 10 < length s → fits ok (statusIn s) ≡ false → isResponse s ≡ false
+unfolding le
+status-bad {s} h n e =
+    by-test s (λ l. leb 11 (most l) && fitsFirst (statusIn s) l)
+    (λ l r. both (le-leb 11 (most l) (omega (arith, reads-most l s r))) (layered-fits h (layered l s r)))
+    ∙ rw e
+
+long-by : {s : List ℕ} {t : ℕ} → Longer t s → let q : Layout → Bool = λ l. leb 11 (most l) && eqb t (outerTag l) in
+    isResponse s ≡ (anyReads s (select q plain) || (anyReads s (select q lists) && distinct (listedKeys s)))
+long-by {s} {t} g =
+    let i = in-before (omega (arith, g .more)) t (g .opened .inside) in
+    by-test s _
+    (λ l r. both (le-leb 11 (most l) (omega (arith, g .more, reads-most l s r)))
+    (eq-eqb t (outerTag l) (i .tag-is ∙ layered-tag (omega (arith, g .more)) (layered l s r))))
+
+pub longer-as : {s : List ℕ} {t u : ℕ} → t ≡ u → Longer t s → Longer u s
+longer-as {s} e g = subst (λ (v : ℕ). Longer v s) e g
+
+pub info-is : {s : List ℕ} → Longer (responseTag getInfo) s → isResponse s ≡ reads info s
+unfolding le
+info-is g = long-by g ∙ simp or-false
+
+pub registered-is : {s : List ℕ} → Longer (responseTag register) s
+    → isResponse s ≡ (reads (registered full (signature ∷ certificate ∷ [])) s || reads (registered surrogate (signature ∷ [])) s)
+unfolding le
+registered-is g = long-by g ∙ simp or-false
+
+pub signed-is : {s : List ℕ} → Longer (responseTag sign) s
+    → isResponse s
+    ≡ ((reads (signed true) s || reads (signed false) s) || (any (λ n. reads (nameList n) s) listLengths && distinct (listedKeys s)))
+unfolding le
+signed-is g = long-by g ∙ simp or-false
+
+pub other-is : {s : List ℕ} {t : ℕ} → Longer t s → NoneOf responseTag (Unit {0}) t (getInfo ∷ register ∷ sign ∷ []) → isResponse s ≡ false
+unfolding le
+other-is g n = long-by g ∙ simp (ne-eqb _ _ (n .1), ne-eqb _ _ (n .0 .1), ne-eqb _ _ (n .0 .0 .1))

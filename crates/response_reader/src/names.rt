@@ -1,18 +1,14 @@
-use fields::Field;
-use fields::Statuses;
-use fields::tags;
 use layouts::Group;
-use layouts::after;
 use layouts::after_group;
-use layouts::enter;
 use tlv::rows::all_distinct;
 ghost use mathlib.Core.Path.{_≡_};
 ghost use mathlib.Core.Bool.{_&&_};
 ghost use Rattle.model.specs.Lists.{any, distinct};
+ghost use Rattle.model.specs.Tlv.{sign, responseTag};
 ghost use Rattle.model.specs.Layouts.{reads};
 ghost use Rattle.model.specs.Commands.{nameList};
 ghost use Rattle.model.specs.Reader.{listedKeys, listLengths};
-ghost use Rattle.response_reader.specs.Responses.{KeysAre};
+ghost use Rattle.response_reader.specs.Responses.{Opened, KeysAre};
 
 // Where the KeyIDs of a list of names stand, and their number. What stands past it is open.
 struct Keys {
@@ -48,11 +44,10 @@ fn keys_from(s: &[u8], from: usize) -> Keys
 
 // Sign's list of names: two to eight, with different KeyIDs.
 pub fn is_name_list(s: &[u8]) -> bool
+    requires { ⌜ Opened (responseTag sign) (now s) ⌝ }
     ensures { λ r. ⌜ r ≡ (any (λ n. reads (nameList n) (now (s .entry))) listLengths && distinct (listedKeys (now (s .entry)))) ⌝ }
 {
-    let a1 = enter(s, 0, tags::SIGN_CMD_RESPONSE);
-    let a2 = after(s, a1, Field::Status(Statuses::Ok));
-    let keys = keys_from(s, a2);
+    let keys = keys_from(s, 10);
     let n = keys.len;
     if n < 2 {
         return false;

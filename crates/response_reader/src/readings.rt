@@ -1,57 +1,49 @@
 use crate::shapes::is_response;
-use crate::signed::holds_others;
 use fields::refusals::NOT_WRITTEN;
+use fields::tags;
+use tlv::heads::COMPOSITE;
 use tlv::heads::Head;
 use tlv::numbers::get16;
 use tlv::walk::tlv_at;
 ghost use mathlib.Core.Path.{_≡_};
-ghost use Rattle.model.specs.Commands.{refused};
-ghost use Rattle.model.specs.Reader.{readResponse};
+ghost use Rattle.model.specs.Reader.{holds, readResponse};
 ghost use Rattle.response_reader.specs.Met.{fieldsMet};
-ghost use Rattle.response_reader.specs.Readings.{partsOf, readingOf};
+ghost use Rattle.response_reader.specs.Readings.{columns, partsOf, left, readingOf};
 
 // The most fields that a response has.
 pub const MOST_FIELDS: usize = 17;
 
-// The tag, the value's place and the value's length of each of some fields, in order. Entries past their number are 0.
-pub struct Parts {
-    pub tags: [usize; MOST_FIELDS],
-    pub places: [usize; MOST_FIELDS],
-    pub lengths: [usize; MOST_FIELDS],
-    pub len: usize,
-}
-
-// The columns and their number as one value.
-fn together(
-    tags: [usize; MOST_FIELDS],
-    places: [usize; MOST_FIELDS],
-    lengths: [usize; MOST_FIELDS],
-    len: usize,
-) -> Parts
-    ensures { λ r. ⌜ r ≡ record { tags = tags; places = places; lengths = lengths; len = len } ⌝ }
+// Whether a TLV with this tag holds others: a composite does, and so does AUTHENTICATOR_ASSERTION.
+fn holds_others(tag: usize) -> bool
+    ensures { λ r. ⌜ r ≡ holds tag ⌝ }
 {
-    Parts {
-        tags,
-        places,
-        lengths,
-        len,
+    if tag / COMPOSITE % 2 == 1 {
+        return true;
     }
+    tag == tags::AUTHENTICATOR_ASSERTION
 }
 
-// The first 17 TLVs of a stretch that hold no other.
-fn parts_in(s: &[u8]) -> Parts
-    ensures { λ r. ⌜ r ≡ partsOf (fieldsMet (now (s .entry))) ⌝ }
+// Of each of the first 17 TLVs of a stretch that hold no other the tag, the value's place and the value's length, and their number. Entries past
+// it are 0.
+fn parts_in(
+    s: &[u8],
+    tags: &mut [usize; MOST_FIELDS],
+    places: &mut [usize; MOST_FIELDS],
+    lengths: &mut [usize; MOST_FIELDS],
+) -> usize
+    ensures { λ r. ⌜
+        columns (now (tags .exit)) (now (places .exit)) (now (lengths .exit)) r ≡ partsOf (fieldsMet (now (s .entry))) ⌝ }
 {
-    let mut tags = [0usize; MOST_FIELDS];
-    let mut places = [0usize; MOST_FIELDS];
-    let mut lengths = [0usize; MOST_FIELDS];
+    *tags = [0usize; MOST_FIELDS];
+    *places = [0usize; MOST_FIELDS];
+    *lengths = [0usize; MOST_FIELDS];
     let mut len = 0;
     let mut at = 0;
     while len < MOST_FIELDS {
         let h = tlv_at(s, at);
         match h {
-            Head::End => return together(tags, places, lengths, len),
-            Head::Bad => return together(tags, places, lengths, len),
+            Head::End => return len,
+            Head::Bad => return len,
             Head::Tlv { tag, start, end } => {
                 if holds_others(tag) {
                     at = start;
@@ -65,45 +57,42 @@ fn parts_in(s: &[u8]) -> Parts
             }
         }
     }
-    together(tags, places, lengths, len)
+    len
 }
 
-// What the second call gives: 0 or the refusal's number; the response tag, the status and the fields, or zeros.
+// What the second call gives beside the columns: 0 or the refusal's number; the response tag, the status and the number of fields, or zeros.
 pub struct Reading {
     pub refusal: u32,
     pub tag: usize,
     pub status: usize,
-    pub parts: Parts,
+    pub count: usize,
 }
 
-// The answer to bytes that are no response.
-fn no_reading() -> Reading
-    ensures { λ r. ⌜ r ≡ readingOf (refused 5) ⌝ }
-{
-    let none = [0usize; MOST_FIELDS];
-    let parts = together(none, none, none, 0);
-    Reading {
-        refusal: NOT_WRITTEN,
-        tag: 0,
-        status: 0,
-        parts,
-    }
-}
-
-// The reader's second call.
-pub fn read_fields(s: &[u8]) -> Reading
-    ensures { λ r. ⌜ r ≡ readingOf (readResponse (now (s .entry))) ⌝ }
+// The reader's second call: of each field its tag, its value's place and its value's length, in order. Entries past their number are 0; after
+// a refusal nothing has changed.
+pub fn read_fields(
+    s: &[u8],
+    tags: &mut [usize; MOST_FIELDS],
+    places: &mut [usize; MOST_FIELDS],
+    lengths: &mut [usize; MOST_FIELDS],
+) -> Reading
+    ensures { λ r. ⌜
+        left r (now (tags .exit)) (now (places .exit)) (now (lengths .exit))
+        ≡ readingOf (readResponse (now (s .entry))) (now (tags .entry)) (now (places .entry)) (now (lengths .entry)) ⌝ }
 {
     if !is_response(s) {
-        return no_reading();
+        return Reading {
+            refusal: NOT_WRITTEN,
+            tag: 0,
+            status: 0,
+            count: 0,
+        };
     }
-    let tag = get16(s, 0);
-    let status = get16(s, 8);
-    let parts = parts_in(s);
+    let count = parts_in(s, tags, places, lengths);
     Reading {
         refusal: 0,
-        tag,
-        status,
-        parts,
+        tag: get16(s, 0),
+        status: get16(s, 8),
+        count,
     }
 }

@@ -5,8 +5,7 @@ use mathlib.Core.Bool.{true, false}
 use mathlib.Core.List.{List}
 use Prim.Native.Nat.{ℕ, _+_, _-_, _≤_}
 use native.Mathlib.Omega.{arith}
-use lib.ListN.{length, take}
-use lib.Seq.{take-all}
+use lib.ListN.{length}
 use Rattle.model.specs.Commands.{Result, refused, gave}
 use Rattle.model.specs.Reader.{Stretch, isResponse, readResponse}
 use Rattle.model.proofs.Basics.{split, impossible}
@@ -15,10 +14,11 @@ use Rattle.tlv.specs.declared.heads.Span.{Span}
 use Rattle.fields.specs.Refusals.{Ended, ended, ends}
 use Rattle.fields.specs.declared.refusals.Written.{Written}
 use Rattle.fields.specs.declared.refusals.Written.the-variants.{Refused, Wrote}
-use Rattle.response_reader.specs.Met.{met, fieldsMet, spanOf, signedMet}
-use Rattle.response_reader.specs.Readings.{partsOf, readingOf}
+use Rattle.response_reader.specs.Met.{met, spanOf, signedMet}
+use Rattle.response_reader.specs.Readings.{Left, left, readingOf}
 use Rattle.response_reader.specs.declared.readings.Reading.{Reading}
-use Rattle.response_reader.proofs.ReadingLaws.{firstSigned, signed-inside, response-is, few-fields}
+use Rattle.response_reader.proofs.SignedLaws.{firstSigned}
+use Rattle.response_reader.proofs.ReadingLaws.{signed-inside, response-is}
 use Rattle.token.specs.Responses.{wrote, completedAs, points, pointed, ReturnedFields, getsFields, returnedFields}
 
 -- ---- completion
@@ -74,27 +74,29 @@ point-gave s p n e f = rw (response-is s e, f) (stretch-as (firstSigned (met s 0
 
 -- ---- the fields
 
-list-not : (s : List ℕ) {r : Reading} → r ≡ readingOf (readResponse s) → isResponse s ≡ false → r .refusal ≡ 5
-unfolding readingOf
-list-not s f e = ap (λ (x : Reading). x .refusal) f ∙ rw (not-read s e)
+module _ (s : List ℕ) (b : ReturnedFields) {r : Reading} {ts ps ls : List ℕ}
+    (f : left r ts ps ls ≡ readingOf (readResponse s) (b .tags) (b .places) (b .lengths)) where
+  list-not : isResponse s ≡ false → r .refusal ≡ 5
+  unfolding readingOf
+  list-not e = ap (λ (x : Left). x .reading .refusal) f ∙ rw (not-read s e)
 
-list-is : (s : List ℕ) {r : Reading} → r ≡ readingOf (readResponse s) → isResponse s ≡ true → r .refusal ≡ 0
-unfolding readingOf
-list-is s f e = ap (λ (x : Reading). x .refusal) f ∙ rw (response-is s e)
+  list-is : isResponse s ≡ true → r .refusal ≡ 0
+  unfolding readingOf
+  list-is e = ap (λ (x : Left). x .reading .refusal) f ∙ rw (response-is s e)
 
-module _ (s : List ℕ) {r : Reading} (f : r ≡ readingOf (readResponse s)) (b : ReturnedFields) where
   pub list-refused : (r .refusal ≡ 0 → ⊥)
-      → getsFields (r .refusal) (b .tag) (b .status) (b .count) (b .tags) (b .places) (b .lengths) ≡ returnedFields (readResponse s) b
-  unfolding returnedFields
+      → getsFields (r .refusal) (b .tag) (b .status) (b .count) ts ps ls ≡ returnedFields (readResponse s) b
+  unfolding returnedFields readingOf
   list-refused h =
-      split (isResponse s) (λ e. absurd (h (list-is s f e))) (λ e. rw (list-not s f e, not-read s e))
+      split (isResponse s) (λ e. absurd (h (list-is e)))
+      (λ e. let g : left r ts ps ls ≡ left (record { refusal = 5; tag = 0; status = 0; count = 0 }) (b .tags) (b .places) (b .lengths) = rw (not-read s e) at f in
+      rw (not-read s e, ap (λ (x : Left). x .reading .refusal) g, ap (λ (x : Left). x .tags) g, ap (λ (x : Left). x .places) g, ap (λ (x : Left). x .lengths) g))
 
   pub list-gave : r .refusal ≡ 0
-      → getsFields 0 (r .tag) (r .status) (r .parts .len) (r .parts .tags) (r .parts .places) (r .parts .lengths)
-      ≡ returnedFields (readResponse s) b
-  unfolding returnedFields readingOf partsOf
+      → getsFields 0 (r .tag) (r .status) (r .count) ts ps ls ≡ returnedFields (readResponse s) b
+  unfolding returnedFields readingOf
   list-gave h =
       split (isResponse s)
-      (λ e. let k : length (take 17 (fieldsMet s)) ≡ length (fieldsMet s) = ap length (take-all 17 (fieldsMet s) (few-fields s e)) in
-      rw (f, response-is s e, k))
-      (λ e. let k = list-not s f e in absurd (omega arith))
+      (λ e. let g = ap (λ (x : Left). getsFields 0 (x .reading .tag) (x .reading .status) (x .reading .count) (x .tags) (x .places) (x .lengths)) f in
+      g ∙ rw (response-is s e))
+      (λ e. let k = list-not e in absurd (omega arith))

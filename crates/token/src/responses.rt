@@ -3,8 +3,8 @@ use fields::refusals::NOT_WRITTEN;
 use fields::refusals::Written;
 use response_reader::readings::MOST_FIELDS;
 use response_reader::readings::read_fields;
-use response_reader::shapes::is_response;
-use response_reader::signed::signed_in;
+use response_reader::shapes::Shape;
+use response_reader::shapes::shape_of;
 ghost use mathlib.Core.Path.{_≡_};
 ghost use lib.ListN.{length};
 ghost use Rattle.model.specs.Complete.{complete};
@@ -55,13 +55,15 @@ pub extern "C" fn uaf_signed_part(response: &[u8], place: &mut usize, part_len: 
         points r (now (place .exit)) (now («part_len» .exit))
         ≡ pointed (readResponse (now (response .entry))) (points 0 (now (place .entry)) (now («part_len» .entry))) ⌝ }
 {
-    if !is_response(response) {
-        return NOT_WRITTEN;
+    let shape = shape_of(response);
+    match shape {
+        Shape::NoResponse => NOT_WRITTEN,
+        Shape::Response(p) => {
+            *place = p.start;
+            *part_len = p.len();
+            0
+        }
     }
-    let p = signed_in(response);
-    *place = p.start;
-    *part_len = p.len();
-    0
 }
 
 // The reader's second call: 0 or the number of a refusal, and after 0 the response tag, the status, the number of fields and, in order, the
@@ -81,19 +83,12 @@ pub extern "C" fn uaf_read_fields(
         ≡ returnedFields (readResponse (now (response .entry)))
         (getsFields 0 (now (tag .entry)) (now (status .entry)) (now (count .entry)) (now (tags .entry)) (now (places .entry)) (now (lengths .entry))) ⌝ }
 {
-    let r = read_fields(response);
+    let r = read_fields(response, tags, places, lengths);
     if r.refusal != 0 {
         return r.refusal;
     }
     *tag = r.tag;
     *status = r.status;
-    let parts = r.parts;
-    *count = parts.len;
-    let t = parts.tags;
-    *tags = t;
-    let p = parts.places;
-    *places = p;
-    let l = parts.lengths;
-    *lengths = l;
+    *count = r.count;
     0
 }

@@ -1,4 +1,4 @@
--- Status OK, then two to eight pairs and nothing else, no two with the same KeyID.
+-- After status OK two to eight pairs and nothing else, no two with the same KeyID.
 use borrow.Author.Needs.{needs}
 use mathlib.Core.Path.{_≡_, sym, _∙_}
 use mathlib.Core.Bool.{true, false}
@@ -15,7 +15,7 @@ returns : tie.Need-returns
 returns c =
     let k = c .before in
     sym
-    (list-distinct (now (k .before .before .before .before .args .s)) (k .before .before .enter .ensures) (k .before .after .ensures)
+    (list-distinct (now (k .before .before .args .s)) (k .before .before .pre)
     (k .keys-from .ensures) false (lt-leb _ _ (c .if1 .taken)))
 
 part-all-distinct-end : tie.Need-part-all-distinct-end
@@ -32,11 +32,11 @@ returns-2 c =
     let k = c .before .before .before .before .before in
     rw sub-zero at (c .all-distinct .ensures)
     ∙ sym
-    (list-distinct (now (k .before .before .before .before .args .s)) (k .before .before .enter .ensures) (k .before .after .ensures)
+    (list-distinct (now (k .before .before .args .s)) (k .before .before .pre)
     (k .keys-from .ensures) true (le-leb _ _ (c .before .before .before .before .if1 .left)))
 
 pub is-name-list-spec : {M : Type 1} → statement M
 is-name-list-spec =
     tie.close
-    (tie.spec (λ c κs. search needs) (λ c κs. search needs) (λ c κs. search needs) returns (λ c. search needs) (λ c. search needs)
+    (tie.spec (λ c κs. search needs) returns (λ c. search needs) (λ c. search needs)
     part-all-distinct-end all-distinct-requires returns-2)

@@ -21,7 +21,7 @@ abbrev μ-loop : tie.MeasureT-loop
 -- a TLV was found
 found : (c : tie.After-known-told Inv-loop μ-loop) → let h = c .before .h .given .0 in
     let l = c .before .before .before .before .before in
-    IsTlv (now (l .before .before .args .s)) (l .loop .at) (h .0) (h .1 .0) (h .1 .1 .0)
+    IsTlv (now (l .before .before .before .before .before .args .s)) (l .loop .at) (h .0) (h .1 .0) (h .1 .1 .0)
 found c = tlv-is _ _ _ _ _ (sym (c .before .before .before .tlv-at .ensures) ∙ c .before .h .given .1)
 
 loop-holds : tie.Need-loop-holds Inv-loop μ-loop
@@ -36,15 +36,11 @@ enum-told c = search needs
 
 returns : tie.Need-returns Inv-loop μ-loop
 returns c =
-    let l = c .before .before .before .before .before .loop in
-    c .together .ensures
-    ∙ listed-all (l .inv) (met-end _ _ (sym (c .before .before .before .tlv-at .ensures) ∙ c .before .enum-told .given .1))
+    listed-all (c .before .before .before .before .loop .inv) (met-end _ _ (sym (c .before .before .tlv-at .ensures) ∙ c .enum-told .given .1))
 
 returns-2 : tie.Need-returns-2 Inv-loop μ-loop
 returns-2 c =
-    let l = c .before .before .before .before .before .loop in
-    c .together2 .ensures
-    ∙ listed-all (l .inv) (met-bad _ _ (sym (c .before .before .before .tlv-at .ensures) ∙ c .before .enum-told2 .given .1))
+    listed-all (c .before .before .before .before .loop .inv) (met-bad _ _ (sym (c .before .before .tlv-at .ensures) ∙ c .enum-told2 .given .1))
 
 holds-others-requires : tie.Need-holds-others-requires Inv-loop μ-loop
 holds-others-requires c κs = tt
@@ -54,8 +50,7 @@ loop-less c = omega (arith, found (c .before .before))
 
 loop-again : tie.Need-loop-again Inv-loop μ-loop
 loop-again c =
-    let l = c .before .before .before .before .before .before .before .loop in
-    listed-inner (l .inv) (found (c .before .before)) (sym (c .before .holds-others .ensures) ∙ c .if1 .taken)
+    listed-inner (c .before .before .before .before .before .before .before .loop .inv) (found (c .before .before)) (sym (c .before .holds-others .ensures) ∙ c .if1 .taken)
 
 sub-lengths : tie.Need-sub-lengths Inv-loop μ-loop
 sub-lengths c = omega (arith, found (c .before .before))
@@ -65,16 +60,14 @@ loop-less-2 c = omega (arith, found (c .before .before))
 
 loop-again-2 : tie.Need-loop-again-2 Inv-loop μ-loop
 loop-again-2 c =
-    let l = c .before .before .before .before .before .before .before .loop in
-    listed-field (l .inv) (found (c .before .before)) (sym (c .before .holds-others .ensures) ∙ c .if1 .left) (omega arith)
+    listed-field (c .before .before .before .before .before .before .before .loop .inv) (found (c .before .before)) (sym (c .before .holds-others .ensures) ∙ c .if1 .left) (omega arith)
 
 returns-3 : tie.Need-returns-3 Inv-loop μ-loop
-returns-3 c = c .together3 .ensures ∙ listed-full (c .before .before .loop .inv) (omega arith)
+returns-3 c = listed-full (c .before .loop .inv) (omega arith)
 
 pub parts-in-spec : {M : Type 1} → statement M
 parts-in-spec =
     tie.close
-    (tie.spec Inv-loop μ-loop loop-holds tlv-at-requires enum-told (λ c κs. search needs) returns (λ c. search needs) (λ c κs. search needs)
-    returns-2 (λ c. search needs) holds-others-requires loop-less loop-again (λ c. search needs) (λ c. search needs) (λ c. search needs)
-    (λ c. search needs) sub-lengths (λ c. search needs) (λ c. search needs) (λ c. search needs) loop-less-2 loop-again-2
-    (λ c κs. search needs) returns-3)
+    (tie.spec Inv-loop μ-loop loop-holds tlv-at-requires enum-told returns (λ c. search needs) returns-2 (λ c. search needs)
+    holds-others-requires loop-less loop-again (λ c. search needs) (λ c. search needs) (λ c. search needs) (λ c. search needs) sub-lengths
+    (λ c. search needs) (λ c. search needs) (λ c. search needs) loop-less-2 loop-again-2 returns-3)

@@ -1,4 +1,4 @@
--- The response, its status, AUTHENTICATOR_ASSERTION and the assertion are entered one after the other.
+-- AUTHENTICATOR_ASSERTION and the assertion are entered one after the other.
 use mathlib.Core.Path.{_∙_}
 use Rattle.response_reader.specs.Responses.{inAssertion}
 use borrow.Author.Needs.{needs}
@@ -7,7 +7,7 @@ use Rattle.response_reader.proofs.shapes.assertion_in.Tie as tie
 
 returns : tie.Need-returns
 unfolding inAssertion
-returns c = c .enter3 .ensures ∙ rw (c .before .enter2 .ensures, c .before .before .after .ensures, c .before .before .before .enter .ensures)
+returns c = c .enter2 .ensures ∙ rw (c .before .enter .ensures)
 
 pub assertion-in-spec : {M : Type 1} → statement M
-assertion-in-spec = tie.close (tie.spec (λ c κs. search needs) (λ c κs. search needs) (λ c κs. search needs) (λ c κs. search needs) returns)
+assertion-in-spec = tie.close (tie.spec (λ c κs. search needs) (λ c κs. search needs) returns)

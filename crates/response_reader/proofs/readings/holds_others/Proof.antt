@@ -1,7 +1,7 @@
 -- The composite bit, or the tag AUTHENTICATOR_ASSERTION.
 use borrow.Author.Tests.{eq-eqb, ne-eqb}
-use Rattle.response_reader.proofs.signed.holds_others.Statement.{statement}
-use Rattle.response_reader.proofs.signed.holds_others.Tie as tie
+use Rattle.response_reader.proofs.readings.holds_others.Statement.{statement}
+use Rattle.response_reader.proofs.readings.holds_others.Tie as tie
 
 returns : tie.Need-returns
 returns c = simp (eq-eqb _ _ (c .if1 .taken))
