@@ -31,9 +31,9 @@ use Rattle.stored_table.specs.Changes.{changeOf}
 use Rattle.stored_table.specs.declared.index.Index.{Index}
 use Rattle.replies.specs.Replies as replies
 use Rattle.replies.specs.Replies.{answerOf, replySize, Ready, Short}
-use Rattle.replies.specs.declared.reply.Reply.{Reply}
+use Rattle.replies.specs.declared.reply.Shape.{Shape}
 use Rattle.replies.proofs.ReplyLaws.{draft-is, ready, short, size-most}
-use Rattle.commands.specs.Decisions.{Decides}
+use Rattle.commands.specs.Decisions.{namedBy, Decides}
 use Rattle.commands.specs.declared.decision.Decision.{Decision}
 use Rattle.authenticator.specs.Outcomes.{isDraft, outputsOf, Ended, ended, ends}
 use Rattle.authenticator.specs.declared.outcome.Outcome.the-variants.{Refused, Gave}
@@ -60,11 +60,11 @@ long-enough n m e h =
     (ltb-false _ _ (or-left _ _ k), ltb-false _ _ (or-right (ltb n leastOutput) _ k))
 
 -- a stored table whose index was found, or not
-pub read-is : (s : List ℕ) {i : Index} → IndexIs s i → i .ok ≡ true → tableOf (stored s) ≡ some (tableIn s)
+pub read-is : (s : List ℕ) {places : List ℕ} {i : Index} → IndexIs s places i → i .ok ≡ true → tableOf (stored s) ≡ some (tableIn s)
 unfolding tableOf
 read-is s p e = p .view ∙ rw e
 
-pub not-read : (s : List ℕ) {i : Index} → IndexIs s i → i .ok ≡ false → tableOf (stored s) ≡ none
+pub not-read : (s : List ℕ) {places : List ℕ} {i : Index} → IndexIs s places i → i .ok ≡ false → tableOf (stored s) ≡ none
 unfolding tableOf
 not-read s p e = p .view ∙ rw e
 
@@ -88,37 +88,38 @@ challenge-ordered {k} {s} {p} r =
     (λ e. r .unless-broken e .challenge-hash .inside .ordered)
 
 -- the answer is a draft where the reply is one
-draft-told : (k : tlv.Kind) (s : List ℕ) (l : Lent) (t : Table) (r : Reply) → isDraft (answerOf k s l t r) ≡ replies.isDraft (r .shape)
-draft-told k s l t r = ap isDraft (draft-is k s l t r) ∙ split (replies.isDraft (r .shape)) (λ e. rw e) (λ e. rw e)
+draft-told : (k : tlv.Kind) (s : List ℕ) (l : Lent) (t : Table) (named : List ℕ) (x : Shape)
+    → isDraft (answerOf k s l t named x) ≡ replies.isDraft x
+draft-told k s l t named x = ap isDraft (draft-is k s l t named x) ∙ split (replies.isDraft x) (λ e. rw e) (λ e. rw e)
 
-module _ {k : tlv.Kind} {s : List ℕ} {n : Numbers} {m key : List ℕ} {t : Table} {c : Span} {d : Decision} (p : Decides k s n m key t c d)
-    (aaid metadata publicKey nonce hash : List ℕ) where
+module _ {k : tlv.Kind} {s : List ℕ} {n : Numbers} {m key : List ℕ} {t : Table} {c : Span} {chosen : List ℕ} {d : Decision}
+    (p : Decides k s n m key t c chosen d) (aaid metadata publicKey nonce hash : List ℕ) where
   abbrev l : Lent
   l = lentOf aaid n metadata m key publicKey nonce hash
 
   module _ (h : lentOk k l ≡ true) where
     -- the reply can be written, whatever mixed token is named: no writer looks at it
-    pub reply-ready : (x : List ℕ) → Ready s (lentOf aaid n metadata x key publicKey nonce hash) t c (d .reply)
+    pub reply-ready : (x : List ℕ) → Ready s (lentOf aaid n metadata x key publicKey nonce hash) t c (namedBy chosen d) (d .shape)
     reply-ready x = ready l x h (p .sound)
 
-    pub reply-short : Short (c .end - c .start) (length publicKey) (length nonce) t (d .reply)
+    pub reply-short : Short (c .end - c .start) (length publicKey) (length nonce) t (namedBy chosen d) (d .shape)
     reply-short = short (reply-ready m)
 
     -- an output that is not too short takes it
-    pub reply-fits : (len room : ℕ) → tableOk t ≡ true → len ≡ replySize (c .end - c .start) (length publicKey) (length nonce) t (d .reply)
-        → leastOutput ≤ room → len ≤ room
+    pub reply-fits : (len room : ℕ) → tableOk t ≡ true
+        → len ≡ replySize (c .end - c .start) (length publicKey) (length nonce) t (namedBy chosen d) (d .shape) → leastOutput ≤ room → len ≤ room
     reply-fits len room ok e r = omega (arith, size-most (reply-ready m) ok)
 
   -- ---- what a call gives
 
   abbrev answer : Answer
-  answer = answerOf k s l t (d .reply)
+  answer = answerOf k s l t (namedBy chosen d) (d .shape)
 
   -- a reply and a table that were written as they were decided
-  pub ends-gave : (o : ℕ) (u : Option ℕ) {b : Bool} {len left r : ℕ} {out out′ tab tab′ : List ℕ} → b ≡ replies.isDraft (d .reply .shape)
+  pub ends-gave : (o : ℕ) (u : Option ℕ) {b : Bool} {len left r : ℕ} {out out′ tab tab′ : List ℕ} → b ≡ replies.isDraft (d .shape)
       → Wrote out 0 (bytesOf answer) len out′ r → Wrote tab 0 (encode (apply m (changeOf s key t (d .change)) t)) left tab′ left
       → ended (Gave b len left) out′ tab′ ≡ ends (gave (perform k (call s l o u) t)) (outputsOf out tab)
   unfolding ends perform outputs
   ends-gave o u {b} f w v =
-      let g : isDraft answer ≡ b = draft-told k s l t (d .reply) ∙ sym f in
+      let g : isDraft answer ≡ b = draft-told k s l t (namedBy chosen d) (d .shape) ∙ sym f in
       rw (← p .is aaid metadata publicKey nonce hash, front w .1, front v .1, g, w .size, v .size)

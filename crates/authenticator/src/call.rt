@@ -13,9 +13,10 @@ use params::lent::lent_ok;
 use params::parse::params_of;
 use replies::write::reply_len;
 use replies::write::write_reply;
-use stored_table::index::Index;
 use stored_table::index::index_of;
 use stored_table::left::put_left;
+use stored_table::records::MAX_OWN;
+use stored_table::records::MAX_RECORDS;
 use stored_table::records::MAX_STORED;
 ghost use mathlib.Core.Path.{_≡_};
 ghost use Prim.Native.Nat.{_≤_};
@@ -26,8 +27,7 @@ ghost use Rattle.model.specs.Records.{maxStored};
 ghost use Rattle.model.specs.Commands.{leastOutput, shortOutput, lentOk, stored, perform, gave, outcome};
 ghost use Rattle.params.specs.Kinds.{kindIs};
 ghost use Rattle.params.specs.Lent.{lentOf, call};
-ghost use Rattle.stored_table.specs.Stored.{tableIn};
-ghost use Rattle.stored_table.specs.Index.{IndexIs};
+ghost use Rattle.stored_table.specs.Stored.{tableIn, Indexed};
 ghost use Rattle.authenticator.specs.Outcomes.{ended, ends, outputsOf};
 
 // Whether an output is too short for what may be written into it.
@@ -53,12 +53,12 @@ fn perform(
     nonce: &[u8],
     hash: &[u8],
     table: &[u8],
-    index: Index,
+    places: &[usize],
     response: &mut [u8],
     table_out: &mut [u8],
 ) -> Outcome
     requires { ⌜ lentOk (kindIs kind) (lentOf (now aaid) numbers (now metadata) (now mixed) (now «key_id») (now «public_key») (now nonce) (now hash)) ≡ true ⌝ }
-    requires { ⌜ IndexIs (now table) index × (index .ok ≡ true) ⌝ }
+    requires { ⌜ Indexed (now table) (now places) ⌝ }
     requires { ⌜ (leastOutput ≤ length (now response)) × (maxStored ≤ length (now «table_out»)) ⌝ }
     ensures { λ r. ⌜
         ended r (now (response .exit)) (now («table_out» .exit))
@@ -70,17 +70,28 @@ fn perform(
         (tableIn (now (table .entry)))))
         (outputsOf (now (response .entry)) (now («table_out» .entry))) ⌝ }
 {
-    let all = index.places;
-    let n = index.len;
-    let places = &all[0..n];
     let params = params_of(command, kind);
-    let decision = decide(kind, command, params, numbers, mixed, key_id, table, places);
-    let reply = decision.reply;
+    let mut chosen = [0usize; MAX_OWN];
+    let decision = decide(
+        kind,
+        command,
+        params,
+        numbers,
+        mixed,
+        key_id,
+        table,
+        places,
+        &mut chosen,
+    );
+    let n = decision.named;
+    let named = &chosen[0..n];
+    let shape = decision.shape;
     let challenge = params.challenge_hash;
-    let len = reply_len(reply, challenge, public_key, nonce, table, places);
+    let len = reply_len(shape, named, challenge, public_key, nonce, table, places);
     write_reply(
         response,
-        reply,
+        shape,
+        named,
         len,
         kind,
         command,
@@ -97,7 +108,6 @@ fn perform(
     );
     let change = decision.change;
     let table_len = put_left(table_out, table, places, change, command, mixed, key_id);
-    let shape = reply.shape;
     Outcome::Gave {
         draft: shape.is_draft(),
         response_len: len,
@@ -133,7 +143,8 @@ pub fn call(
     if is_short(response.len(), table_out.len()) {
         return Outcome::Refused(SHORT_OUTPUT);
     }
-    let index = index_of(table);
+    let mut places = [0usize; MAX_RECORDS];
+    let index = index_of(table, &mut places);
     if !index.ok {
         return Outcome::Refused(BROKEN_TABLE);
     }
@@ -154,6 +165,7 @@ pub fn call(
     ) {
         return Outcome::Refused(WRONG_LENT);
     }
+    let n = index.len;
     perform(
         kind,
         command,
@@ -166,7 +178,7 @@ pub fn call(
         nonce,
         hash,
         table,
-        index,
+        &places[0..n],
         response,
         table_out,
     )

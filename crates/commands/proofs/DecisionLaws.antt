@@ -25,13 +25,12 @@ use Rattle.params.specs.Parse.{Placed, ParamsRead}
 use Rattle.params.specs.declared.lent.Numbers.{Numbers}
 use Rattle.params.specs.declared.parse.Params.{Params}
 use Rattle.stored_table.specs.Changes.{removal, Can}
+use Rattle.stored_table.specs.declared.left.Change.{Change}
 use Rattle.stored_table.specs.declared.left.Change.the-variants.{Keep, Add, Remove}
-use Rattle.replies.specs.Replies.{plain, answerOf, Challenge, SoundShape, Sound}
+use Rattle.replies.specs.Replies.{answerOf, Challenge, SoundShape, Sound}
 use Rattle.replies.specs.declared.reply.Shape.{Shape}
 use Rattle.replies.specs.declared.reply.Shape.the-variants.{Status, Registration}
-use Rattle.replies.proofs.ReplyLaws.{plain-named}
 use Rattle.commands.specs.Decisions.{decision, decisionOf, Decides, DecidesAlways}
-use Rattle.commands.specs.declared.decision.Decision.{Decision}
 use Rattle.commands.specs.declared.decision.Judged.{Judged}
 use Rattle.commands.specs.declared.decision.Judged.the-variants.{Fails, Passes}
 
@@ -54,8 +53,8 @@ judge-passed cs e o = judged (λ (j : Judged). j ≡ Passes → Passed cs) cs Fa
 -- ---- a command by its checks
 
 -- a reply that names no record
-pub plain-sound : {k : Kind} {s : List ℕ} {t : records.Table} {c : Span} (x : Shape) → SoundShape k s t c x → Sound k s t c (plain x)
-plain-sound {t = t} x h = record { named-there = plain-named t x; own-shape = h }
+pub plain-sound : {k : Kind} {s : List ℕ} {t : records.Table} {c : Span} (x : Shape) → SoundShape k s t c x → Sound k s t c [] x
+plain-sound x h = record { named-there = record { few = omega arith; each = λ i l. absurd (omega arith) }; own-shape = h }
 
 -- these are its checks, and v is what it decides where they pass, by what is lent
 pub record Checked (k : Kind) (s : List ℕ) (n : Numbers) (m key : List ℕ) (t : records.Table) (cs : List Check)
@@ -72,15 +71,16 @@ module _ {k : Kind} {s : List ℕ} {n : Numbers} {m key : List ℕ} {t : records
   decided a d p x y = h .by a d p x y ∙ judge-is cs (only k keep) _ e
 
   -- one fails
-  pub fails : {c : Span} {i : ℕ} → j ≡ Fails i → Decides k s n m key t c (decision (plain (Status i)) Keep)
+  pub fails : {c : Span} {chosen : List ℕ} {i : ℕ} → j ≡ Fails i → Decides k s n m key t c chosen (decision (Status i) 0 Keep)
   unfolding answerOf only
   fails {i = i} o =
-      record { is = λ a d p x y. sym (decided a d p x y ∙ rw o); sound = plain-sound (Status i) tt; can = tt }
+      record { is = λ a d p x y. sym (decided a d p x y ∙ rw o); within = omega arith; sound = plain-sound (Status i) tt; can = tt }
 
-  -- all pass
-  pub passes : {c : Span} {d : Decision} → j ≡ Passes → ((l : Lent) → decisionOf k s l t d ≡ v l) → Sound k s t c (d .reply)
-      → Can s key m t (d .change) → Decides k s n m key t c d
-  passes o f q r = record { is = λ a d p x y. f _ ∙ sym (decided a d p x y ∙ rw o); sound = q; can = r }
+  -- all pass, and no record is named
+  pub passes : {c : Span} {chosen : List ℕ} {x : Shape} {w : Change} → j ≡ Passes
+      → ((l : Lent) → decisionOf k s l t [] (decision x 0 w) ≡ v l) → SoundShape k s t c x → Can s key m t w → Decides k s n m key t c chosen (decision x 0 w)
+  passes {x = x} o f q r =
+      record { is = λ a d p y z. f _ ∙ sym (decided a d p y z ∙ rw o); within = omega arith; sound = plain-sound x q; can = r }
 
 -- ---- the fields of a command that breaks no rule
 
@@ -109,19 +109,16 @@ module _ (s : List ℕ) (n : Numbers) (m key : List ℕ) (t : records.Table) whe
 
 module _ {k : Kind} {v : Lent → model.Decision}
     (h : (s : List ℕ) (n : Numbers) (m key : List ℕ) (t : records.Table) → Checked k s n m key t (breaks k s) v) {p : Params} where
-  pub always-broken : p .broken ≡ true → DecidesAlways k p (decision (plain (Status 0x08)) Keep)
+  pub always-broken : p .broken ≡ true → DecidesAlways k p (decision (Status 0x08) 0 Keep)
   unfolding judge
-  always-broken b = record { always = λ s n m key t q. fails (h s n m key t) (rw (← q .broken-is, b)) refl }
+  always-broken b = record { always = λ s n m key t chosen q. fails (h s n m key t) (rw (← q .broken-is, b)) refl }
 
   pub always-given : {x : Shape} → p .broken ≡ false
-      → ((s : List ℕ) (l : Lent) (t : records.Table) → decisionOf k s l t (decision (plain x) Keep) ≡ v l)
-      → ((s : List ℕ) (t : records.Table) (c : Span) → SoundShape k s t c x) → DecidesAlways k p (decision (plain x) Keep)
+      → ((s : List ℕ) (l : Lent) (t : records.Table) → decisionOf k s l t [] (decision x 0 Keep) ≡ v l)
+      → ((s : List ℕ) (t : records.Table) (c : Span) → SoundShape k s t c x) → DecidesAlways k p (decision x 0 Keep)
   unfolding judge
-  always-given {x} b f g =
-      record {
-        always =
-            λ s n m key t q. passes (h s n m key t) (rw (← q .broken-is, b)) refl (λ l. f s l t) (plain-sound x (g s t _)) tt;
-      }
+  always-given b f g =
+      record { always = λ s n m key t chosen q. passes (h s n m key t) (rw (← q .broken-is, b)) refl (λ l. f s l t) (g s t _) tt }
 
 -- ---- Register
 
@@ -145,14 +142,14 @@ module _ (s : List ℕ) (n : Numbers) (m key : List ℕ) (t : records.Table) whe
         (h .0, or-right (leb maxOwn (length (own m t))) _ (h .1 .1 .1 .1 .0))
 
     -- a record more with the command's name
-    pub registered : length m ≡ 32 → length key ≡ 32
-        → Decides register s n m key t (p .«challenge_hash») (decision (plain Registration) (Add (p .username)))
+    pub registered : {chosen : List ℕ} → length m ≡ 32 → length key ≡ 32
+        → Decides register s n m key t (p .«challenge_hash») chosen (decision Registration 0 (Add (p .username)))
     unfolding answerOf
     registered g h =
         let b = register-passed .0 in
         let f = q .unless-broken b in
         passes register-checked e o (λ l. rw (f .username .value))
-        (plain-sound Registration (refl, challenge-placed register b refl (f .challenge-hash)))
+        (refl, challenge-placed register b refl (f .challenge-hash))
         (record {
           inside = f .username .inside;
           short = placed-short register username b refl (f .username);
@@ -170,10 +167,10 @@ module _ (s : List ℕ) (n : Numbers) (m key : List ℕ) (t : records.Table) whe
   deregister-checked = record { by = λ a d p x y. refl }
 
   -- what is removed is told by the command's KeyID
-  pub deregistered : {p : Params} {c : Span} {j : Judged} → ParamsRead deregister s p
+  pub deregistered : {p : Params} {c : Span} {chosen : List ℕ} {j : Judged} → ParamsRead deregister s p
       → j ≡ judge (deregisterChecks s (own m t)) Fails Passes → j ≡ Passes
-      → Decides deregister s n m key t c (decision (plain (Status 0x00)) (Remove (p .«key_id»)))
+      → Decides deregister s n m key t c chosen (decision (Status 0x00) 0 (Remove (p .«key_id»)))
   unfolding answerOf only
   deregistered q e o =
       let k = q .unless-broken (judge-passed (deregisterChecks s (own m t)) e o .0) .key-id in
-      passes deregister-checked e o (λ l. rw (k .value)) (plain-sound (Status 0x00) tt) (k .inside)
+      passes deregister-checked e o (λ l. rw (k .value)) tt (k .inside)

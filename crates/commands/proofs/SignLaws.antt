@@ -2,7 +2,7 @@
 -- Assumes nothing.
 use mathlib.Core.Path.{_≡_, refl, sym, ap, _∙_}
 use mathlib.Core.Bool.{Bool, true, false}
-use mathlib.Core.List.{List, [], _∷_, map}
+use mathlib.Core.List.{List, [], _∷_}
 use Prim.Native.Nat.{ℕ, suc, _+_, _≤_}
 use native.Mathlib.Nat.{pos-of-ne-zero}
 use native.Mathlib.Numerals.{add-one}
@@ -12,7 +12,7 @@ use lib.Seq.{length-take-le}
 use Rattle.model.specs.Lists.{first}
 use Rattle.model.specs.Tlv.{sign, keyHandle, broken, fieldsIn}
 use Rattle.model.specs.Records as records
-use Rattle.model.specs.Records.{own, hasMixed}
+use Rattle.model.specs.Records.{own, hasMixed, tableOk}
 use Rattle.model.specs.Commands.{Lent, judge, only, keep, setCount, draft, userChecks, oneChecks, hasContent, signDraft, signOne, chosen, signChosen, decideSign, decide}
 use Rattle.model.proofs.Basics.{and-left, first-passes}
 use Rattle.model.proofs.EdgesSign.{several-listed}
@@ -25,9 +25,8 @@ use Rattle.stored_table.specs.Stored.{noRecord}
 use Rattle.stored_table.specs.Changes.{CanCount}
 use Rattle.stored_table.specs.Chosen.{isChosen, positions, ChosenAre, ChosenOf, recordsAt}
 use Rattle.stored_table.specs.declared.left.Change.the-variants.{Keep, SetCount}
-use Rattle.stored_table.specs.declared.lookups.Chosen.{Chosen}
 use Rattle.stored_table.proofs.LookupLaws.{chosen-is, chosen-records, chosen-of}
-use Rattle.replies.specs.Replies.{plain, answerOf, Challenge}
+use Rattle.replies.specs.Replies.{answerOf, Challenge}
 use Rattle.replies.specs.declared.reply.Shape.the-variants.{Status, Names, Signed}
 use Rattle.replies.proofs.ReplyLaws.{sign-draft}
 use Rattle.commands.specs.Decisions.{decision, Decides, DecidesOne}
@@ -46,18 +45,20 @@ module _ (content : Bool) (display count : ℕ) {j : Judged} (e : j ≡ judge (o
   unfolding signOne
   one-is s l r f g h = judge-is (oneChecks (hasContent s) (l .display) (r .count)) (only sign keep) _ (rw (← f, ← g, ← h) at e)
 
-  pub one-fails : {i n : ℕ} → j ≡ Fails n → DecidesOne content display count i (decision (plain (Status n)) Keep)
+  pub one-fails : {i n : ℕ} → j ≡ Fails n → DecidesOne content display count i (decision (Status n) 0 Keep)
   unfolding answerOf only
-  one-fails {n = n} o = record { one = λ s l m t c f g h q r. (sym (one-is s l _ f g h ∙ rw o), plain-sound (Status n) tt, tt) }
+  one-fails {n = n} o =
+      record { one = λ s l m t c chosen f g h q r. (sym (one-is s l _ f g h ∙ rw o), omega arith, plain-sound (Status n) tt, tt) }
 
   pub one-passes : {i : ℕ} → j ≡ Passes
-      → DecidesOne content display count i (decision (plain (Signed i (count + 1) content)) (SetCount i (count + 1)))
+      → DecidesOne content display count i (decision (Signed i (count + 1) content) 0 (SetCount i (count + 1)))
   unfolding answerOf
   one-passes {i} o =
       record {
         one =
-            λ s l m t c f g h q r. (
+            λ s l m t c chosen f g h q r. (
               rw (← f, ← h, sign-draft s l (getD t i noRecord), add-one) (sym (one-is s l _ f g h ∙ rw o)),
+              omega arith,
               plain-sound (Signed i (count + 1) content) (refl, q, r .there),
               r,
             );
@@ -65,20 +66,21 @@ module _ (content : Bool) (display count : ℕ) {j : Judged} (e : j ≡ judge (o
 
 -- ---- the records chosen
 
--- c has the numbers of the records of the holder m that a command s chooses, whose checks pass
-pub record Chose (s : List ℕ) (n : Numbers) (m : List ℕ) (t : records.Table) (p : Params) (c : Chosen) : Type 0 where
+-- the first k of these are the numbers of the records of the holder m that a command s chooses, whose checks pass
+pub record Chose (s : List ℕ) (n : Numbers) (m : List ℕ) (t : records.Table) (p : Params) (chosen : List ℕ) (k : ℕ) : Type 0 where
   pub signs : (aaid metadata key publicKey nonce hash : List ℕ)
-      → let l = lentOf aaid n metadata m key publicKey nonce hash in decideSign s l (own m t) ≡ signChosen s l (recordsAt t c)
+      → let l = lentOf aaid n metadata m key publicKey nonce hash in decideSign s l (own m t) ≡ signChosen s l (recordsAt t (take k chosen))
   pub challenge : Challenge s (p .«challenge_hash»)
-  pub number : length (recordsAt t c) ≡ c .len
-  pub there : ChosenOf t c
+  pub within : k ≤ length chosen
+  pub number : length (recordsAt t (take k chosen)) ≡ k
+  pub there : ChosenOf t (take k chosen)
   -- where there is one
-  pub one : c .len ≡ 1 → recordsAt t c ≡ getD t (getD (c .records) 0 0) noRecord ∷ []
-  pub mine : c .len ≡ 1 → hasMixed m (getD t (getD (c .records) 0 0) noRecord) ≡ true
+  pub one : k ≡ 1 → recordsAt t (take k chosen) ≡ getD t (getD chosen 0 0) noRecord ∷ []
+  pub mine : k ≡ 1 → CanCount m t (getD chosen 0 0)
 
-one-at : (g : ℕ → records.Record) (n : ℕ) (is : List ℕ) → n ≡ 1 → n ≤ length is → map g (take n is) ≡ g (getD is 0 0) ∷ []
-one-at g n [] e k = absurd (omega arith)
-one-at g n (i ∷ is) e k = rw e
+first-of : (k : ℕ) (is : List ℕ) → k ≡ 1 → k ≤ length is → take k is ≡ getD is 0 0 ∷ []
+first-of k [] e h = absurd (omega arith)
+first-of k (i ∷ is) e h = rw e
 
 -- j is what the code's judgment gave
 module _ {s : List ℕ} {p : Params} (n : Numbers) (q : ParamsRead sign s p) {j : Judged}
@@ -88,8 +90,8 @@ module _ {s : List ℕ} {p : Params} (n : Numbers) (q : ParamsRead sign s p) {j 
   unfolding decide decideSign
   sign-checked m key t = record { by = λ a d k x y. rw (q .broken-is) refl }
 
-  pub sign-fails : {m key : List ℕ} {t : records.Table} {i : ℕ} → j ≡ Fails i
-      → Decides sign s n m key t (p .«challenge_hash») (decision (plain (Status i)) Keep)
+  pub sign-fails : {m key chosen : List ℕ} {t : records.Table} {i : ℕ} → j ≡ Fails i
+      → Decides sign s n m key t (p .«challenge_hash») chosen (decision (Status i) 0 Keep)
   sign-fails {m} {key} {t} o = fails (sign-checked m key t) e o
 
   module _ (o : j ≡ Passes) where
@@ -99,24 +101,29 @@ module _ {s : List ℕ} {p : Params} (n : Numbers) (q : ParamsRead sign s p) {j 
     pub sign-placed : ParamsPlaced s p
     sign-placed = q .unless-broken sign-unbroken
 
-    pub chose : {m : List ℕ} {t : records.Table} {c : Chosen} → length (c .records) ≡ 8
-        → ChosenAre (positions (isChosen m (partsIn s (p .handles))) 0 t) c → Chose s n m t p c
+    pub chose : {m : List ℕ} {t : records.Table} {cs : List ℕ} {k : ℕ} → tableOk t ≡ true
+        → ChosenAre (positions (isChosen m (partsIn s (p .handles))) 0 t) cs k → Chose s n m t p cs k
     unfolding decide
-    chose {m} {t} {c} size h =
+    chose {m} {t} {cs} {k} ok h =
         let hs : List (List ℕ) = partsIn s (p .handles) in
-        let g : ℕ → records.Record = λ i. getD t i noRecord in
-        let fits : c .len ≤ length (c .records) = omega (arith, h .few) in
-        let are : recordsAt t c ≡ chosen hs (own m t) = chosen-records m hs t size h in
-        let one : c .len ≡ 1 → recordsAt t c ≡ g (getD (c .records) 0 0) ∷ [] = λ e. one-at g (c .len) (c .records) e fits in
+        let r : records.Record = getD t (getD cs 0 0) noRecord in
+        let are : recordsAt t (take k cs) ≡ chosen hs (own m t) = chosen-records m hs t (h .are) in
+        let of : ChosenOf t (take k cs) = chosen-of m hs t (h .are) ok in
+        let first-is : k ≡ 1 → take k cs ≡ getD cs 0 0 ∷ [] = λ e. first-of k cs e (h .within) in
+        let one : k ≡ 1 → recordsAt t (take k cs) ≡ r ∷ [] = λ e. ap (recordsAt t) (first-is e) in
         record {
-          signs = λ a d k x y z. decided (sign-checked m k t) e a d x y z ∙ rw (o, are, sign-placed .handles .values);
+          signs = λ a d key x y z. decided (sign-checked m key t) e a d x y z ∙ rw (o, are, sign-placed .handles .values);
           challenge = challenge-placed sign sign-unbroken refl (sign-placed .challenge-hash);
-          number = simp (length-map, length-take-le (c .len) (c .records) fits);
-          there = chosen-of m hs t size h;
+          within = h .within;
+          number = simp (length-map, length-take-le k cs (h .within));
+          there = of;
           one = one;
           mine =
-              λ e. and-left (hasMixed m (g (getD (c .records) 0 0))) _
-              (first-passes (isChosen m hs) t (g (getD (c .records) 0 0)) (ap first (chosen-is m hs t ∙ sym are ∙ one e)));
+              λ e.
+              record {
+                there = rw (first-is e) at (of .each) 0 (omega arith);
+                mine = and-left (hasMixed m r) _ (first-passes (isChosen m hs) t r (ap first (chosen-is m hs t ∙ sym are ∙ one e)));
+              };
         }
 
 -- ---- by how many are chosen
@@ -127,37 +134,38 @@ unfolding signChosen
 chosen-none s l [] h = refl
 chosen-none s l (r ∷ rs) h = absurd (omega arith)
 
-module _ {s : List ℕ} {n : Numbers} {m key : List ℕ} {t : records.Table} {p : Params} {c : Chosen} (w : Chose s n m t p c) where
-  pub none-chosen : c .len ≡ 0 → Decides sign s n m key t (p .«challenge_hash») (decision (plain (Status 0x02)) Keep)
+module _ {s : List ℕ} {n : Numbers} {m key : List ℕ} {t : records.Table} {p : Params} {cs : List ℕ} {k : ℕ} (w : Chose s n m t p cs k) where
+  pub none-chosen : k ≡ 0 → Decides sign s n m key t (p .«challenge_hash») cs (decision (Status 0x02) 0 Keep)
   unfolding decide answerOf only
   none-chosen h =
       record {
-        is = λ a d k x y. sym (w .signs a d key k x y ∙ chosen-none s _ (recordsAt t c) (w .number ∙ h));
+        is = λ a d b x y. sym (w .signs a d key b x y ∙ chosen-none s _ (recordsAt t (take k cs)) (w .number ∙ h));
+        within = omega arith;
         sound = plain-sound (Status 0x02) tt;
         can = tt;
       }
 
-  pub one-chosen : {content : Bool} {count : ℕ} {d : Decision} → c .len ≡ 1 → hasContent s ≡ content
-      → getD t (getD (c .records) 0 0) noRecord .count ≡ count → DecidesOne content (n .display) count (getD (c .records) 0 0) d
-      → Decides sign s n m key t (p .«challenge_hash») d
+  pub one-chosen : {content : Bool} {count : ℕ} {d : Decision} → k ≡ 1 → hasContent s ≡ content
+      → getD t (getD cs 0 0) noRecord .count ≡ count → DecidesOne content (n .display) count (getD cs 0 0) d
+      → Decides sign s n m key t (p .«challenge_hash») cs d
   unfolding decide signChosen
   one-chosen h f g d =
-      let r : CanCount m t (getD (c .records) 0 0) = record { there = w .there .each 0 (omega arith); mine = w .mine h } in
-      let v = d .one s (lentOf [] n [] m key [] [] []) m t _ f refl g (w .challenge) r in
+      let v = d .one s (lentOf [] n [] m key [] [] []) m t _ cs f refl g (w .challenge) (w .mine h) in
       record {
         is =
-            λ a b k x y. d .one s (lentOf a n b m key k x y) m t _ f refl g (w .challenge) r .0
-            ∙ sym (w .signs a b key k x y ∙ rw (w .one h));
-        sound = v .1;
-        can = v .2;
+            λ a b q x y. d .one s (lentOf a n b m key q x y) m t _ cs f refl g (w .challenge) (w .mine h) .0
+            ∙ sym (w .signs a b key q x y ∙ rw (w .one h));
+        within = v .1;
+        sound = v .2;
+        can = v .3;
       }
 
-  pub several-chosen : (c .len ≡ 0 → ⊥) → (c .len ≡ 1 → ⊥)
-      → Decides sign s n m key t (p .«challenge_hash») (decision (record { shape = Names; named = c }) Keep)
+  pub several-chosen : (k ≡ 0 → ⊥) → (k ≡ 1 → ⊥) → Decides sign s n m key t (p .«challenge_hash») cs (decision Names k Keep)
   unfolding decide answerOf
   several-chosen g h =
       record {
-        is = λ a d k x y. sym (w .signs a d key k x y ∙ several-listed s _ (recordsAt t c) (omega (arith, w .number, pos-of-ne-zero g)));
+        is = λ a d b x y. sym (w .signs a d key b x y ∙ several-listed s _ (recordsAt t (take k cs)) (omega (arith, w .number, pos-of-ne-zero g)));
+        within = w .within;
         sound = record { named-there = w .there; own-shape = tt };
         can = tt;
       }

@@ -1,10 +1,10 @@
 -- What a command decides: a reply and a change, which together are the model's decision.
 use mathlib.Core.Path.{_≡_}
-use Prim.Native.Nat.{ℕ}
+use Prim.Native.Nat.{ℕ, _≤_}
 use mathlib.Core.Bool.{Bool}
 use mathlib.Core.List.{List}
 use lib.Dec.{leb}
-use lib.ListN.{length, getD}
+use lib.ListN.{length, getD, take}
 use Rattle.model.specs.Lists.{among}
 use Rattle.model.specs.Tlv.{Kind, sign}
 use Rattle.model.specs.Records as records
@@ -20,33 +20,41 @@ use Rattle.stored_table.specs.Stored.{noRecord}
 use Rattle.stored_table.specs.Changes.{changeOf, CanCount, Can}
 use Rattle.stored_table.specs.declared.left.Change.{Change}
 use Rattle.replies.specs.Replies.{answerOf, Challenge, Sound}
-use Rattle.replies.specs.declared.reply.Reply.{Reply}
+use Rattle.replies.specs.declared.reply.Shape.{Shape}
 use Rattle.commands.specs.declared.decision.Decision.{Decision}
 
--- the decision that is this reply and this change
-abbrev pub decision : Reply → Change → Decision
-decision r c = record { reply = r; change = c }
+-- the decision that is this reply, which names n records, and this change
+abbrev pub decision : Shape → ℕ → Change → Decision
+decision x n c = record { shape = x; named = n; change = c }
+
+-- the numbers of the records that it names, which stand first here
+abbrev pub namedBy : List ℕ → Decision → List ℕ
+namedBy chosen d = take (d .named) chosen
 
 -- the model's decision that this is, of a command s of this kind that is lent this, on this table
-abbrev pub decisionOf : Kind → List ℕ → Lent → records.Table → Decision → model.Decision
-decisionOf k s l t d = record { answer = answerOf k s l t (d .reply); change = changeOf s (l .keyId) t (d .change) }
+abbrev pub decisionOf : Kind → List ℕ → Lent → records.Table → List ℕ → Decision → model.Decision
+decisionOf k s l t chosen d =
+    record { answer = answerOf k s l t (namedBy chosen d) (d .shape); change = changeOf s (l .keyId) t (d .change) }
 
 -- a command s of this kind, lent these numbers, the mixed token m and the KeyID key, decides so on a table, whatever else is lent; the reply can be
--- written and the change made; c is where its challenge hash stands
-pub record Decides (k : Kind) (s : List ℕ) (n : Numbers) (m key : List ℕ) (t : records.Table) (c : Span) (d : Decision) : Type 0 where
+-- written and the change made; c is where its challenge hash stands, and the records named have the first numbers of these
+pub record Decides (k : Kind) (s : List ℕ) (n : Numbers) (m key : List ℕ) (t : records.Table) (c : Span) (chosen : List ℕ)
+    (d : Decision) : Type 0 where
   pub is : (aaid metadata publicKey nonce hash : List ℕ)
-      → decisionOf k s (lentOf aaid n metadata m key publicKey nonce hash) t d
+      → decisionOf k s (lentOf aaid n metadata m key publicKey nonce hash) t chosen d
       ≡ decide k s (lentOf aaid n metadata m key publicKey nonce hash) (own m t) (among key (keyIds t)) (leb maxRecords (length t))
-  pub sound : Sound k s t c (d .reply)
+  pub within : d .named ≤ length chosen
+  pub sound : Sound k s t c (namedBy chosen d) (d .shape)
   pub can : Can s key m t (d .change)
 
 -- a command that looks at its parameters alone decides so on every table, whatever is lent
 pub record DecidesAlways (k : Kind) (p : Params) (d : Decision) : Type 0 where
-  pub always : (s : List ℕ) (n : Numbers) (m key : List ℕ) (t : records.Table) → ParamsRead k s p
-      → Decides k s n m key t (p .«challenge_hash») d
+  pub always : (s : List ℕ) (n : Numbers) (m key : List ℕ) (t : records.Table) (chosen : List ℕ) → ParamsRead k s p
+      → Decides k s n m key t (p .«challenge_hash») chosen d
 
 -- Sign's decision on one record, number i, with this count: of every command with content or without, lent this display result
 pub record DecidesOne (content : Bool) (display count i : ℕ) (d : Decision) : Type 0 where
-  pub one : (s : List ℕ) (l : Lent) (m : List ℕ) (t : records.Table) (c : Span) → hasContent s ≡ content → l .display ≡ display
-      → getD t i noRecord .count ≡ count → Challenge s c → CanCount m t i
-      → (decisionOf sign s l t d ≡ signOne s l (getD t i noRecord)) × Sound sign s t c (d .reply) × Can s (l .keyId) m t (d .change)
+  pub one : (s : List ℕ) (l : Lent) (m : List ℕ) (t : records.Table) (c : Span) (chosen : List ℕ) → hasContent s ≡ content
+      → l .display ≡ display → getD t i noRecord .count ≡ count → Challenge s c → CanCount m t i
+      → (decisionOf sign s l t chosen d ≡ signOne s l (getD t i noRecord)) × (d .named ≤ length chosen)
+      × Sound sign s t c (namedBy chosen d) (d .shape) × Can s (l .keyId) m t (d .change)

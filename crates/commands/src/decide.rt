@@ -15,7 +15,7 @@ ghost use Rattle.params.specs.Parse.{ParamsRead};
 ghost use Rattle.stored_table.specs.Stored.{Indexed, tableIn};
 ghost use Rattle.commands.specs.Decisions.{Decides};
 
-// Decides a command of this kind.
+// Decides a command of this kind. The numbers of the records that its reply names are put into what is lent for them.
 pub fn decide(
     kind: Kind,
     command: &[u8],
@@ -25,17 +25,19 @@ pub fn decide(
     key_id: &[u8],
     table: &[u8],
     places: &[usize],
+    chosen: &mut [usize],
 ) -> Decision
     requires { ⌜ ParamsRead (kindIs kind) (now command) params ⌝ }
     requires { ⌜ (kindIs kind ≡ model.register → (length (now mixed) ≡ 32) × (length (now «key_id») ≡ 32)) ⌝ }
-    requires { ⌜ Indexed (now table) (now places) ⌝ }
+    requires { ⌜ Indexed (now table) (now places) × (length (now chosen) ≡ 8) ⌝ }
     ensures { λ r. ⌜
-        Decides (kindIs kind) (now (command .entry)) numbers (now (mixed .entry)) (now («key_id» .entry)) (tableIn (now (table .entry))) (params .«challenge_hash») r ⌝ }
+        Decides (kindIs kind) (now (command .entry)) numbers (now (mixed .entry)) (now («key_id» .entry)) (tableIn (now (table .entry))) (params .«challenge_hash»)
+        (now (chosen .exit)) r ⌝ }
 {
     match kind {
         Kind::GetInfo => get_info(params),
         Kind::Register => register(command, params, numbers, mixed, key_id, table, places),
-        Kind::Sign => sign(command, params, numbers, mixed, table, places),
+        Kind::Sign => sign(command, params, numbers, mixed, table, places, chosen),
         Kind::Deregister => deregister(command, params, mixed, table, places),
         Kind::OpenSettings => open_settings(params),
     }

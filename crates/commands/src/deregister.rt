@@ -1,9 +1,9 @@
 use crate::decision::Decision;
 use crate::decision::Judged;
 use crate::decision::only;
+use crate::decision::plain;
 use params::parse::Params;
 use replies::reply::Shape;
-use replies::reply::plain;
 use replies::status::ACCESS_DENIED;
 use replies::status::OK;
 use replies::status::PARAMS_INVALID;
@@ -59,18 +59,14 @@ pub fn deregister(
     requires { ⌜ ParamsRead deregister (now command) params ⌝ }
     requires { ⌜ Indexed (now table) (now places) ⌝ }
     ensures { λ r. ⌜
-        ((n : Numbers) (k : List ℕ) → Decides deregister (now (command .entry)) n (now (mixed .entry)) k (tableIn (now (table .entry))) (params .«challenge_hash») r) ⌝ }
+        ((n : Numbers) (k chosen : List ℕ) → Decides deregister (now (command .entry)) n (now (mixed .entry)) k (tableIn (now (table .entry))) (params .«challenge_hash») chosen r) ⌝ }
 {
     let judged = judge_deregister(command, params, mixed, table, places);
     match judged {
         Judged::Fails(status) => only(status),
         Judged::Passes => {
-            let reply = plain(Shape::Status(OK));
             let key = params.key_id;
-            Decision {
-                reply,
-                change: Change::Remove(key),
-            }
+            plain(Shape::Status(OK), Change::Remove(key))
         }
     }
 }

@@ -1,8 +1,8 @@
 use crate::decision::Decision;
 use crate::decision::only;
+use crate::decision::plain;
 use params::parse::Params;
 use replies::reply::Shape;
-use replies::reply::plain;
 use replies::status::PARAMS_INVALID;
 use stored_table::left::Change;
 ghost use Rattle.model.specs.Tlv.{getInfo};
@@ -15,9 +15,5 @@ pub fn get_info(params: Params) -> Decision
     if params.broken {
         return only(PARAMS_INVALID);
     }
-    let reply = plain(Shape::Info);
-    Decision {
-        reply,
-        change: Change::Keep,
-    }
+    plain(Shape::Info, Change::Keep)
 }

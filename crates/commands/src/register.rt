@@ -1,12 +1,12 @@
 use crate::decision::Decision;
 use crate::decision::Judged;
 use crate::decision::only;
+use crate::decision::plain;
 use crate::statuses::verdict_status;
 use fields::tags;
 use params::lent::Numbers;
 use params::parse::Params;
 use replies::reply::Shape;
-use replies::reply::plain;
 use replies::status::ATTESTATION_NOT_SUPPORTED;
 use replies::status::ERR_UNKNOWN;
 use replies::status::INSUFFICIENT_RESOURCES;
@@ -18,8 +18,9 @@ use stored_table::records::MAX_OWN;
 use stored_table::records::MAX_RECORDS;
 use tlv::numbers::get16;
 ghost use mathlib.Core.Path.{_≡_};
+ghost use Prim.Native.Nat.{ℕ};
 ghost use mathlib.Core.Bool.{_||_};
-ghost use mathlib.Core.List.{[]};
+ghost use mathlib.Core.List.{List, []};
 ghost use lib.Dec.{leb, eqb};
 ghost use lib.ListN.{length};
 ghost use Rattle.model.specs.Lists.{among};
@@ -94,18 +95,15 @@ pub fn register(
     requires { ⌜ (length (now mixed) ≡ 32) × (length (now «key_id») ≡ 32) ⌝ }
     requires { ⌜ Indexed (now table) (now places) ⌝ }
     ensures { λ r. ⌜
-        Decides register (now (command .entry)) numbers (now (mixed .entry)) (now («key_id» .entry)) (tableIn (now (table .entry))) (params .«challenge_hash») r ⌝ }
+        ((chosen : List ℕ) → Decides register (now (command .entry)) numbers (now (mixed .entry)) (now («key_id» .entry)) (tableIn (now (table .entry)))
+        (params .«challenge_hash») chosen r) ⌝ }
 {
     let judged = judge_register(command, params, numbers, mixed, key_id, table, places);
     match judged {
         Judged::Fails(status) => only(status),
         Judged::Passes => {
-            let reply = plain(Shape::Registration);
             let name = params.username;
-            Decision {
-                reply,
-                change: Change::Add(name),
-            }
+            plain(Shape::Registration, Change::Add(name))
         }
     }
 }

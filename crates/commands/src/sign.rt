@@ -1,13 +1,12 @@
 use crate::decision::Decision;
 use crate::decision::Judged;
 use crate::decision::only;
+use crate::decision::plain;
 use crate::statuses::display_status;
 use crate::statuses::verdict_status;
 use params::lent::Numbers;
 use params::parse::Params;
-use replies::reply::Reply;
 use replies::reply::Shape;
-use replies::reply::plain;
 use replies::status::ACCESS_DENIED;
 use replies::status::ERR_UNKNOWN;
 use replies::status::PARAMS_INVALID;
@@ -17,6 +16,7 @@ use stored_table::records::count_of;
 ghost use mathlib.Core.Path.{_≡_};
 ghost use Prim.Native.Nat.{ℕ};
 ghost use mathlib.Core.List.{List};
+ghost use lib.ListN.{length};
 ghost use Rattle.model.specs.Tlv.{sign};
 ghost use Rattle.model.specs.Commands.{judge, userChecks, oneChecks};
 ghost use Rattle.params.specs.Parse.{ParamsRead};
@@ -61,23 +61,23 @@ fn sign_one(content: bool, display: u32, count: u32, i: usize) -> Decision
         Judged::Fails(status) => only(status),
         Judged::Passes => {
             let next = count + 1;
-            let reply = plain(Shape::Signed {
+            let shape = Shape::Signed {
                 record: i,
                 count: next,
                 content,
-            });
-            Decision {
-                reply,
-                change: Change::SetCount {
+            };
+            plain(
+                shape,
+                Change::SetCount {
                     record: i,
                     count: next,
                 },
-            }
+            )
         }
     }
 }
 
-// Sign: a status, the names of several, or signed data and a count raised.
+// Sign: a status, the names of several, whose numbers it puts into what is lent for them, or signed data and a count raised.
 pub fn sign(
     command: &[u8],
     params: Params,
@@ -85,33 +85,33 @@ pub fn sign(
     mixed: &[u8],
     table: &[u8],
     places: &[usize],
+    chosen: &mut [usize],
 ) -> Decision
     requires { ⌜ ParamsRead sign (now command) params ⌝ }
     requires { ⌜ Indexed (now table) (now places) ⌝ }
+    requires { ⌜ length (now chosen) ≡ 8 ⌝ }
     ensures { λ r. ⌜
-        ((k : List ℕ) → Decides sign (now (command .entry)) numbers (now (mixed .entry)) k (tableIn (now (table .entry))) (params .«challenge_hash») r) ⌝ }
+        ((k : List ℕ) → Decides sign (now (command .entry)) numbers (now (mixed .entry)) k (tableIn (now (table .entry))) (params .«challenge_hash»)
+        (now (chosen .exit)) r) ⌝ }
 {
     let judged = judge_sign(params.broken, numbers.verdict);
     match judged {
         Judged::Fails(status) => only(status),
         Judged::Passes => {
             let handles = params.handles;
-            let named = choose(table, places, mixed, command, handles);
-            if named.len == 0 {
+            let named = choose(table, places, mixed, command, handles, chosen);
+            if named == 0 {
                 return only(ACCESS_DENIED);
             }
-            if named.len == 1 {
-                let i = named.records[0];
+            if named == 1 {
+                let i = chosen[0];
                 let content = params.transaction_content;
                 let count = count_of(table, places[i]);
                 return sign_one(!content.is_empty(), numbers.display, count, i);
             }
-            let reply = Reply {
+            Decision {
                 shape: Shape::Names,
                 named,
-            };
-            Decision {
-                reply,
                 change: Change::Keep,
             }
         }

@@ -76,7 +76,7 @@ values-all {table} x {i = i} p h k =
 
 -- ---- the whole
 
-module _ {s : List ℕ} {index : Index} (x : IndexIs s index) {t : Table} where
+module _ {s places : List ℕ} {index : Index} (x : IndexIs s places index) {t : Table} where
   pub loaded-none : index .ok ≡ false → t ≡ tableValue [] → record { refusal = 2; table = t } ≡ loading (decode s)
   unfolding loading
   loaded-none h e = rw (x .view, h, e)

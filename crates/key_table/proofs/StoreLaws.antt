@@ -98,7 +98,8 @@ read-test : {A : Type 0} (x : A) (b : Bool) → given (cond b (some x) none) ≡
 read-test x true = refl
 read-test x false = refl
 
-pub form-ok : {t : model.Table} {out : List ℕ} {n : ℕ} {r : Index} → FormIs t out n → IndexIs (take n out) r → r .ok ≡ tableOk t
+pub form-ok : {t : model.Table} {out places : List ℕ} {n : ℕ} {r : Index} → FormIs t out n → IndexIs (take n out) places r
+    → r .ok ≡ tableOk t
 unfolding tableOf
 form-ok f x = sym (read-test _ _) ∙ ap given (sym (x .view) ∙ f .view) ∙ read-test _ _
 

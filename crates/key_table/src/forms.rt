@@ -8,6 +8,7 @@ use fields::refusals::SHORT_OUTPUT;
 use fields::refusals::Written;
 use stored_table::index::index_of;
 use stored_table::left::put_record;
+use stored_table::records::MAX_RECORDS;
 use stored_table::records::MAX_STORED;
 use stored_table::records::count_of;
 use stored_table::records::key_of;
@@ -87,7 +88,8 @@ pub fn store(t: Table, out: &mut [u8]) -> Written
     }
     let mut form = [0u8; MAX_STORED];
     let n = put_form(&mut form, t);
-    let index = index_of(&form[0..n]);
+    let mut places = [0usize; MAX_RECORDS];
+    let index = index_of(&form[0..n], &mut places);
     if !index.ok {
         return Written::Refused(BROKEN_TABLE);
     }
@@ -129,14 +131,14 @@ pub struct Loaded {
 pub fn load(stored: &[u8]) -> Loaded
     ensures { λ r. ⌜ r ≡ loading (decode (now (stored .entry))) ⌝ }
 {
-    let index = index_of(stored);
+    let mut places = [0usize; MAX_RECORDS];
+    let index = index_of(stored, &mut places);
     if !index.ok {
         return Loaded {
             refusal: BROKEN_TABLE,
             table: no_table(),
         };
     }
-    let places = index.places;
     let n = index.len;
     Loaded {
         refusal: 0,

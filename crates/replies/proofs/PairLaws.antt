@@ -1,7 +1,7 @@
 -- The names and KeyIDs of some records as they are written: one pair, and one pair after another; and how many bytes they take.
 -- Assumes nothing.
 use mathlib.Core.Path.{_≡_, refl}
-use mathlib.Core.List.{List, [], _∷_, _++_, map, map-append, append-assoc}
+use mathlib.Core.List.{List, [], _∷_, _++_, map-append, append-assoc}
 use mathlib.Core.Bool.{true}
 use Prim.Native.Nat.{ℕ, zero, suc, _+_, _*_, _≤_, _<_}
 use native.Mathlib.Numerals.{add-one}
@@ -15,8 +15,7 @@ use Rattle.model.proofs.Rules.{obeys-rules}
 use Rattle.tlv.specs.Writing.{Wrote}
 use Rattle.tlv.proofs.WriteLaws.{then, then-run, then-value, same, wrote-none}
 use Rattle.stored_table.specs.Stored.{noRecord, nameSize, recordAt, Stands, Indexed, tableIn}
-use Rattle.stored_table.specs.Chosen.{ChosenOf}
-use Rattle.stored_table.specs.declared.lookups.Chosen.{Chosen}
+use Rattle.stored_table.specs.Chosen.{ChosenOf, recordsAt}
 use Rattle.stored_table.proofs.IndexLaws.{RecordIs, name-length, key-length, record-at, length-places}
 use Rattle.replies.specs.Writes.{pairsOf}
 use Rattle.replies.specs.Replies.{pairsSize}
@@ -52,10 +51,6 @@ size-append : (a b : model.Table) → pairsSize (a ++ b) ≡ pairsSize a + pairs
 size-append [] b = omega arith
 size-append (r ∷ a) b = omega (arith, size-append a b)
 
--- the records of these numbers
-abbrev pub numbered : model.Table → List ℕ → model.Table
-numbered t is = map (λ i. getD t i noRecord) is
-
 -- nothing written yet
 pub pairs-none : (d : List ℕ) (at : ℕ) → at ≤ length d → Wrote d at (pairsOf []) 0 d at
 unfolding pairsOf write fill bytes
@@ -65,29 +60,28 @@ module _ (t : model.Table) (is : List ℕ) (i : ℕ) (h : i < length is) where
   abbrev next : model.Record
   next = getD t (getD is i 0) noRecord
 
-  numbered-more : numbered t (take (i + 1) is) ≡ numbered t (take i is) ++ (next ∷ [])
-  numbered-more = rw (add-one, take-suc is i 0 h, map-append (λ j. getD t j noRecord) (take i is) (getD is i 0 ∷ []))
+  records-more : recordsAt t (take (i + 1) is) ≡ recordsAt t (take i is) ++ (next ∷ [])
+  records-more = rw (add-one, take-suc is i 0 h, map-append (λ j. getD t j noRecord) (take i is) (getD is i 0 ∷ []))
 
   -- one record more: its pair is counted, and written
   module _ {table : List ℕ} {place : ℕ} (e : RecordIs table place (getD t (getD is i 0) noRecord)) where
-    pub size-more : pairsSize (numbered t (take (i + 1) is)) ≡ pairsSize (numbered t (take i is)) + (44 + nameSize table place)
-    size-more = rw numbered-more (omega (arith, e .size, size-append (numbered t (take i is)) (next ∷ [])))
+    pub size-more : pairsSize (recordsAt t (take (i + 1) is)) ≡ pairsSize (recordsAt t (take i is)) + (44 + nameSize table place)
+    size-more = rw records-more (omega (arith, e .size, size-append (recordsAt t (take i is)) (next ∷ [])))
 
     pub pairs-more : {d d₁ d₂ : List ℕ} {at e₁ e₂ : ℕ}
-        → Wrote d at (pairsOf (numbered t (take i is))) (pairsSize (numbered t (take i is))) d₁ e₁
+        → Wrote d at (pairsOf (recordsAt t (take i is))) (pairsSize (recordsAt t (take i is))) d₁ e₁
         → Wrote d₁ e₁ (pairsOf (recordAt table place ∷ [])) (44 + nameSize table place) d₂ e₂
-        → Wrote d at (pairsOf (numbered t (take (i + 1) is))) (pairsSize (numbered t (take (i + 1) is))) d₂ e₂
+        → Wrote d at (pairsOf (recordsAt t (take (i + 1) is))) (pairsSize (recordsAt t (take (i + 1) is))) d₂ e₂
     pairs-more p q =
-        same (rw (numbered-more, pairs-append (numbered t (take i is)) (next ∷ []), e .is)) (rw size-more) (then p q)
+        same (rw (records-more, pairs-append (recordsAt t (take i is)) (next ∷ []), e .is)) (rw size-more) (then p q)
 
 -- ---- how many bytes they take
 
 -- no more than those of more records
-pub size-part : (t : model.Table) (is : List ℕ) (i n : ℕ) → i ≤ n → pairsSize (numbered t (take i is)) ≤ pairsSize (numbered t (take n is))
-size-part t is zero n h = omega arith
-size-part t is (suc i) zero h = absurd (omega arith)
-size-part t [] (suc i) (suc n) h = omega arith
-size-part t (j ∷ is) (suc i) (suc n) h = omega (arith, size-part t is i n (omega arith))
+pub size-part : (t : model.Table) (is : List ℕ) (i : ℕ) → i ≤ length is → pairsSize (recordsAt t (take i is)) ≤ pairsSize (recordsAt t is)
+size-part t is zero h = omega arith
+size-part t [] (suc i) h = omega arith
+size-part t (j ∷ is) (suc i) h = omega (arith, size-part t is i (omega arith))
 
 -- by the rules a name has at most 128 bytes and a KeyID 32
 pub record Sized (n : ℕ) (rs : model.Table) : Type 0 where
@@ -100,28 +94,27 @@ unfolding pairsOf write fill bytes le
 size-one r rs h = simp length-append (omega arith)
 
 module _ (t : model.Table) (ok : model.tableOk t ≡ true) where
-  pub sized : (n : ℕ) (is : List ℕ) → ((i : ℕ) → i < n → getD is i 0 < length t) → Sized n (numbered t (take n is))
+  pub sized : (is : List ℕ) → ((i : ℕ) → i < length is → getD is i 0 < length t) → Sized (length is) (recordsAt t is)
   unfolding pairsOf write fill bytes
-  sized zero is each = record { most = omega arith; is = refl }
-  sized (suc n) [] each = record { most = omega arith; is = refl }
-  sized (suc n) (j ∷ is) each =
+  sized [] each = record { most = omega arith; is = refl }
+  sized (j ∷ is) each =
       let r = obeys-rules t ok .each j (each 0 (omega arith)) in
-      let rest = sized n is (λ i h. each (suc i) (omega arith)) in
+      let rest = sized is (λ i h. each (suc i) (omega arith)) in
       record {
         most = omega (arith, r .name-most, rest .most);
-        is = omega (arith, size-one (getD t j noRecord) (numbered t (take n is)) (r .key-id), rest .is);
+        is = omega (arith, size-one (getD t j noRecord) (recordsAt t is) (r .key-id), rest .is);
       }
 
 -- ---- the records that are named
 
-module _ {table places : List ℕ} (x : Indexed table places) {c : Chosen} (o : ChosenOf (tableIn table) c) where
-  pub named-most : (i : ℕ) → i ≤ c .len → pairsSize (numbered (tableIn table) (take i (c .records))) ≤ 172 * i
-  named-most i h = sized (tableIn table) (x .ok) i (c .records) (λ j k. o .each j (omega arith)) .most
+module _ {table places : List ℕ} (x : Indexed table places) {named : List ℕ} (o : ChosenOf (tableIn table) named) where
+  pub named-most : pairsSize (recordsAt (tableIn table) named) ≤ 1376
+  named-most = omega (arith, sized (tableIn table) (x .ok) named (o .each) .most, o .few)
 
-  module _ (i : ℕ) (h : i < c .len) where
+  module _ (i : ℕ) (h : i < length named) where
     -- there is a record of this number, and it stands at its place
-    pub named-place : getD (c .records) i 0 < length places
+    pub named-place : getD named i 0 < length places
     named-place = omega (arith, o .each i h, length-places x)
 
-    pub named-there : let j = getD (c .records) i 0 in RecordIs table (getD places j 0) (getD (tableIn table) j noRecord)
+    pub named-there : let j = getD named i 0 in RecordIs table (getD places j 0) (getD (tableIn table) j noRecord)
     named-there = record-at x _ named-place

@@ -17,12 +17,11 @@ use Rattle.tlv.specs.Writing.{Wrote}
 use Rattle.tlv.specs.declared.heads.Span.{Span}
 use Rattle.tlv.proofs.HeadLaws.{length-part}
 use Rattle.params.specs.Lent.{lentOf, numbersIn}
-use Rattle.stored_table.specs.Chosen.{ChosenOf, recordsAt}
+use Rattle.stored_table.specs.Chosen.{recordsAt}
 use Rattle.replies.specs.Writes.{infoWritten, krd, signedDraft, pairsOf}
-use Rattle.replies.specs.Replies.{plain, shapeAnswer, answerOf, isDraft, pairsSize, shapeSize, replySize, Challenge, SoundShape, Sound, ReadyShape, Ready, ShortShape, Short}
+use Rattle.replies.specs.Replies.{shapeAnswer, answerOf, isDraft, pairsSize, shapeSize, replySize, Challenge, SoundShape, Sound, ReadyShape, Ready, ShortShape, Short}
 use Rattle.replies.specs.declared.reply.Shape.{Shape}
 use Rattle.replies.specs.declared.reply.Shape.the-variants.{Status, Info, Names, Registration, Signed}
-use Rattle.replies.specs.declared.reply.Reply.{Reply}
 use Rattle.replies.proofs.PairLaws.{Sized, sized}
 
 -- ---- which answer it is
@@ -37,13 +36,10 @@ module _ (k : Kind) (s : List ℕ) (l : Lent) (t : Table) where
   shape-draft named Registration = refl
   shape-draft named (Signed i n content) = refl
 
-  pub draft-is : (r : Reply)
-      → answerOf k s l t r ≡ cond (isDraft (r .shape)) (draft (bytesOf (answerOf k s l t r))) (response (bytesOf (answerOf k s l t r)))
+  pub draft-is : (named : List ℕ) (x : Shape)
+      → answerOf k s l t named x ≡ cond (isDraft x) (draft (bytesOf (answerOf k s l t named x))) (response (bytesOf (answerOf k s l t named x)))
   unfolding answerOf
-  draft-is r = shape-draft (recordsAt t (r .named)) (r .shape)
-
-pub plain-named : (t : Table) (x : Shape) → ChosenOf t (plain x .named)
-plain-named t x = record { few = omega arith; each = λ i h. absurd (omega arith) }
+  draft-is named x = shape-draft (recordsAt t named) x
 
 -- the information and the drafts of the definition are those that are written
 pub info-is : (l : Lent) → infoResponse l ≡ infoWritten (l .aaid) (l .metadata)
@@ -82,10 +78,10 @@ module _ (k : Kind) (s : List ℕ) (l : Lent) (m : List ℕ) (t : Table) (c : Sp
       let p : SignRules l = lent-rules sign l (rw (h .0) at ok) in
       record { aaid = p .profile .aaid; nonce = p .nonce-most; challenge = h .1; hash = p .hash; there = h .2 }
 
-pub ready : {k : Kind} {s : List ℕ} (l : Lent) {t : Table} {c : Span} {r : Reply} (m : List ℕ) → lentOk k l ≡ true → Sound k s t c r
-    → Ready s (lentTo m l) t c r
-ready {k} {s} l {t} {c} {r} m ok h =
-    record { named-there = h .named-there; ready-shape = shape-ready k s l m t c ok (r .shape) (h .own-shape) }
+pub ready : {k : Kind} {s : List ℕ} (l : Lent) {t : Table} {c : Span} {named : List ℕ} {x : Shape} (m : List ℕ) → lentOk k l ≡ true
+    → Sound k s t c named x → Ready s (lentTo m l) t c named x
+ready {k} {s} l {t} {c} {x = x} m ok h =
+    record { named-there = h .named-there; ready-shape = shape-ready k s l m t c ok x (h .own-shape) }
 
 -- the challenge hash is as long as the part that it is
 module _ {s : List ℕ} {c : Span} (h : Challenge s c) where
@@ -130,42 +126,42 @@ module _ (k : Kind) (s : List ℕ) (l : Lent) (t : Table) (ok : tableOk t ≡ tr
   shape-size (Signed i n false) e h =
       simp length-append (omega (arith, h, challenge-size (h .challenge), obeys-rules t ok .each i (h .there) .key-id))
 
-module _ {s : List ℕ} {l : Lent} {t : Table} {c : Span} {r : Reply} (h : Ready s l t c r) where
-  pub short : Short (c .end - c .start) (length (l .publicKey)) (length (l .nonce)) t r
-  short = record { named-there = h .named-there; short-shape = shape-short s l t c (r .shape) (h .ready-shape) }
+module _ {s : List ℕ} {l : Lent} {t : Table} {c : Span} {named : List ℕ} {x : Shape} (h : Ready s l t c named x) where
+  pub short : Short (c .end - c .start) (length (l .publicKey)) (length (l .nonce)) t named x
+  short = record { named-there = h .named-there; short-shape = shape-short s l t c x (h .ready-shape) }
 
   module _ (ok : tableOk t ≡ true) where
-    pairs-sized : Sized (r .named .len) (recordsAt t (r .named))
-    pairs-sized = sized t ok (r .named .len) (r .named .records) (h .named-there .each)
+    pairs-sized : Sized (length named) (recordsAt t named)
+    pairs-sized = sized t ok named (h .named-there .each)
 
     -- its size is the length of its answer's bytes, which fit into every output that a call accepts
     pub size-is : (k : Kind)
-        → replySize (c .end - c .start) (length (l .publicKey)) (length (l .nonce)) t r ≡ length (bytesOf (answerOf k s l t r))
+        → replySize (c .end - c .start) (length (l .publicKey)) (length (l .nonce)) t named x ≡ length (bytesOf (answerOf k s l t named x))
     unfolding replySize answerOf
-    size-is k = shape-size k s l t ok c (recordsAt t (r .named)) (r .shape) (pairs-sized .is) (h .ready-shape)
+    size-is k = shape-size k s l t ok c (recordsAt t named) x (pairs-sized .is) (h .ready-shape)
 
-    pub size-most : replySize (c .end - c .start) (length (l .publicKey)) (length (l .nonce)) t r ≤ leastOutput
+    pub size-most : replySize (c .end - c .start) (length (l .publicKey)) (length (l .nonce)) t named x ≤ leastOutput
     unfolding replySize
     size-most =
-        let few : pairsSize (recordsAt t (r .named)) ≤ 1376 = omega (arith, pairs-sized .most, h .named-there .few) in
-        shape-most _ _ _ (recordsAt t (r .named)) (r .shape) few (short .short-shape)
+        let few : pairsSize (recordsAt t named) ≤ 1376 = omega (arith, pairs-sized .most, h .named-there .few) in
+        shape-most _ _ _ (recordsAt t named) x few (short .short-shape)
 
 -- ---- by a shape that is known
 
-module _ (r : Reply) {x : Shape} (e : r .shape ≡ x) where
-  pub size-by : (c p n : ℕ) (t : Table) → replySize c p n t r ≡ shapeSize c p n (recordsAt t (r .named)) x
+module _ (named : List ℕ) {y x : Shape} (e : y ≡ x) where
+  pub size-by : (c p n : ℕ) (t : Table) → replySize c p n t named y ≡ shapeSize c p n (recordsAt t named) x
   unfolding replySize
   size-by c p n t = rw e
 
-  pub short-by : {c p n : ℕ} {t : Table} → Short c p n t r → ShortShape c p n x
+  pub short-by : {c p n : ℕ} {t : Table} → Short c p n t named y → ShortShape c p n x
   short-by h = rw e at (h .short-shape)
 
-  pub ready-by : {s : List ℕ} {l : Lent} {t : Table} {c : Span} → Ready s l t c r → ReadyShape s l t c x
+  pub ready-by : {s : List ℕ} {l : Lent} {t : Table} {c : Span} → Ready s l t c named y → ReadyShape s l t c x
   ready-by h = rw e at (h .ready-shape)
 
   -- its bytes were written
   pub wrote-by : (k : Kind) (s : List ℕ) (l : Lent) (t : Table) {d d′ : List ℕ} {len end : ℕ}
-      → Wrote d 0 (bytesOf (shapeAnswer k s l t (recordsAt t (r .named)) x)) len d′ end
-      → Wrote d 0 (bytesOf (answerOf k s l t r)) len d′ end
+      → Wrote d 0 (bytesOf (shapeAnswer k s l t (recordsAt t named) x)) len d′ end
+      → Wrote d 0 (bytesOf (answerOf k s l t named y)) len d′ end
   unfolding answerOf
   wrote-by k s l t w = rw e w

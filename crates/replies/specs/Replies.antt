@@ -17,11 +17,6 @@ use Rattle.stored_table.specs.Chosen.{ChosenOf, recordsAt}
 use Rattle.replies.specs.Writes.{signedDraft}
 use Rattle.replies.specs.declared.reply.Shape.{Shape}
 use Rattle.replies.specs.declared.reply.Shape.the-variants.{Status, Info, Names, Registration, Signed}
-use Rattle.replies.specs.declared.reply.Reply.{Reply}
-
--- a reply that names no record
-abbrev pub plain : Shape → Reply
-plain x = record { shape = x; named = record { records = 0 ∷ 0 ∷ 0 ∷ 0 ∷ 0 ∷ 0 ∷ 0 ∷ 0 ∷ []; len = 0 } }
 
 -- ---- what it says to a command s of this kind that was lent this, on this table
 
@@ -33,8 +28,9 @@ shapeAnswer k s l t named Registration = draft (registerDraft s l)
 shapeAnswer k s l t named (Signed i n content) =
     draft (signedDraft content (l .aaid) (numbersIn l) (l .nonce) (fieldIn challengeHash s) (l .contentHash) (getD t i noRecord .keyId) n)
 
-unfoldable pub answerOf : Kind → List ℕ → Lent → Table → Reply → Answer
-answerOf k s l t r = shapeAnswer k s l t (recordsAt t (r .named)) (r .shape)
+-- where it names the records with these numbers
+unfoldable pub answerOf : Kind → List ℕ → Lent → Table → List ℕ → Shape → Answer
+answerOf k s l t named x = shapeAnswer k s l t (recordsAt t named) x
 
 -- whether that is a draft
 abbrev pub isDraft : Shape → Bool
@@ -58,8 +54,8 @@ shapeSize c p x named Names = 10 + pairsSize named
 shapeSize c p x named Registration = 84 + c + p
 shapeSize c p x named (Signed i n content) = 78 + c + x + cond content 36 4
 
-unfoldable pub replySize : (challenge publicKey nonce : ℕ) → Table → Reply → ℕ
-replySize c p x t r = shapeSize c p x (recordsAt t (r .named)) (r .shape)
+unfoldable pub replySize : (challenge publicKey nonce : ℕ) → Table → List ℕ → Shape → ℕ
+replySize c p n t named x = shapeSize c p n (recordsAt t named) x
 
 -- ---- what a writer needs
 
@@ -77,9 +73,9 @@ SoundShape k s t c Names = Unit {0}
 SoundShape k s t c Registration = (k ≡ register) × Challenge s c
 SoundShape k s t c (Signed i n content) = (k ≡ sign) × Challenge s c × (i < length t)
 
-pub record Sound (k : Kind) (s : List ℕ) (t : Table) (c : Span) (r : Reply) : Type 0 where
-  pub named-there : ChosenOf t (r .named)
-  pub own-shape : SoundShape k s t c (r .shape)
+pub record Sound (k : Kind) (s : List ℕ) (t : Table) (c : Span) (named : List ℕ) (x : Shape) : Type 0 where
+  pub named-there : ChosenOf t named
+  pub own-shape : SoundShape k s t c x
 
 -- a writer's output is what it should be only if what it writes of what is lent has the right length: for key registration data, for signed data, and
 -- by the shape
@@ -103,9 +99,9 @@ ReadyShape s l t c Names = Unit {0}
 ReadyShape s l t c Registration = KrdReady s (l .aaid) (l .keyId) (l .publicKey) c
 ReadyShape s l t c (Signed i n content) = SignedReady s (l .aaid) (l .nonce) (l .contentHash) t c i
 
-pub record Ready (s : List ℕ) (l : Lent) (t : Table) (c : Span) (r : Reply) : Type 0 where
-  pub named-there : ChosenOf t (r .named)
-  pub ready-shape : ReadyShape s l t c (r .shape)
+pub record Ready (s : List ℕ) (l : Lent) (t : Table) (c : Span) (named : List ℕ) (x : Shape) : Type 0 where
+  pub named-there : ChosenOf t named
+  pub ready-shape : ReadyShape s l t c x
 
 -- the lengths that count are short
 abbrev pub ShortShape : (challenge publicKey nonce : ℕ) → Shape → Type 0
@@ -115,6 +111,6 @@ ShortShape c p x Names = Unit {0}
 ShortShape c p x Registration = (c ≤ 32) × (p ≤ 512)
 ShortShape c p x (Signed i n content) = (c ≤ 32) × (x ≤ 32)
 
-pub record Short (challenge publicKey nonce : ℕ) (t : Table) (r : Reply) : Type 0 where
-  pub named-there : ChosenOf t (r .named)
-  pub short-shape : ShortShape challenge publicKey nonce (r .shape)
+pub record Short (challenge publicKey nonce : ℕ) (t : Table) (named : List ℕ) (x : Shape) : Type 0 where
+  pub named-there : ChosenOf t named
+  pub short-shape : ShortShape challenge publicKey nonce x

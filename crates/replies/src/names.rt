@@ -1,7 +1,6 @@
 use crate::status::OK;
 use crate::status::put_start;
 use fields::tags;
-use stored_table::lookups::Chosen;
 use stored_table::records::key_of;
 use stored_table::records::name_len;
 use stored_table::records::name_of;
@@ -23,17 +22,16 @@ const BESIDE_NAME: usize = 44;
 
 const INSIDE_BESIDE_NAME: usize = 40;
 
-// How many bytes the names and KeyIDs of these records take.
-pub fn pairs_len(table: &[u8], places: &[usize], named: Chosen) -> usize
+// How many bytes the names and KeyIDs of the records with these numbers take.
+pub fn pairs_len(table: &[u8], places: &[usize], named: &[usize]) -> usize
     requires { ⌜ Indexed (now table) (now places) ⌝ }
-    requires { ⌜ ChosenOf (tableIn (now table)) named ⌝ }
-    ensures { λ r. ⌜ r ≡ pairsSize (recordsAt (tableIn (now (table .entry))) named) ⌝ }
+    requires { ⌜ ChosenOf (tableIn (now table)) (now named) ⌝ }
+    ensures { λ r. ⌜ r ≡ pairsSize (recordsAt (tableIn (now (table .entry))) (now (named .entry))) ⌝ }
 {
-    let n = named.len;
     let mut len = 0;
     let mut i = 0;
-    while i < n {
-        let record = named.records[i];
+    while i < named.len() {
+        let record = named[i];
         len += BESIDE_NAME + name_len(table, places[record]);
         i += 1;
     }
@@ -56,19 +54,18 @@ fn put_pair(out: &mut [u8], at: usize, table: &[u8], place: usize) -> usize
 }
 
 // Writes the name and the KeyID of each of these records, in their order.
-fn put_pairs(out: &mut [u8], at: usize, table: &[u8], places: &[usize], named: Chosen) -> usize
+fn put_pairs(out: &mut [u8], at: usize, table: &[u8], places: &[usize], named: &[usize]) -> usize
     requires { ⌜ Indexed (now table) (now places) ⌝ }
-    requires { ⌜ ChosenOf (tableIn (now table)) named ⌝ }
-    requires { ⌜ at + pairsSize (recordsAt (tableIn (now table)) named) ≤ length (now out) ⌝ }
+    requires { ⌜ ChosenOf (tableIn (now table)) (now named) ⌝ }
+    requires { ⌜ at + pairsSize (recordsAt (tableIn (now table)) (now named)) ≤ length (now out) ⌝ }
     ensures { λ e. ⌜
-        Wrote (now (out .entry)) at (pairsOf (recordsAt (tableIn (now (table .entry))) named))
-        (pairsSize (recordsAt (tableIn (now (table .entry))) named)) (now (out .exit)) e ⌝ }
+        Wrote (now (out .entry)) at (pairsOf (recordsAt (tableIn (now (table .entry))) (now (named .entry))))
+        (pairsSize (recordsAt (tableIn (now (table .entry))) (now (named .entry)))) (now (out .exit)) e ⌝ }
 {
-    let n = named.len;
     let mut end = at;
     let mut i = 0;
-    while i < n {
-        let record = named.records[i];
+    while i < named.len() {
+        let record = named[i];
         end = put_pair(out, end, table, places[record]);
         i += 1;
     }
@@ -76,11 +73,17 @@ fn put_pairs(out: &mut [u8], at: usize, table: &[u8], places: &[usize], named: C
 }
 
 // Writes Sign's response where several are chosen, of len bytes: their names and KeyIDs, oldest first.
-pub fn put_names(out: &mut [u8], len: usize, table: &[u8], places: &[usize], named: Chosen) -> usize
+pub fn put_names(
+    out: &mut [u8],
+    len: usize,
+    table: &[u8],
+    places: &[usize],
+    named: &[usize],
+) -> usize
     requires { ⌜ Indexed (now table) (now places) ⌝ }
-    requires { ⌜ ChosenOf (tableIn (now table)) named ⌝ }
-    requires { ⌜ (len ≡ 10 + pairsSize (recordsAt (tableIn (now table)) named)) × (len ≤ length (now out)) ⌝ }
-    ensures { λ r. ⌜ Wrote (now (out .entry)) 0 (nameResponse (recordsAt (tableIn (now (table .entry))) named)) len (now (out .exit)) r ⌝ }
+    requires { ⌜ ChosenOf (tableIn (now table)) (now named) ⌝ }
+    requires { ⌜ (len ≡ 10 + pairsSize (recordsAt (tableIn (now table)) (now named))) × (len ≤ length (now out)) ⌝ }
+    ensures { λ r. ⌜ Wrote (now (out .entry)) 0 (nameResponse (recordsAt (tableIn (now (table .entry))) (now (named .entry)))) len (now (out .exit)) r ⌝ }
 {
     let a = put_start(out, tags::SIGN_CMD_RESPONSE, len - 4, OK);
     put_pairs(out, a, table, places, named)

@@ -1,9 +1,7 @@
-use stored_table::lookups::Chosen;
-use stored_table::records::MAX_OWN;
 ghost use mathlib.Core.Path.{_≡_};
-ghost use Rattle.replies.specs.Replies.{isDraft, plain};
+ghost use Rattle.replies.specs.Replies.{isDraft};
 
-// Which reply it is.
+// A reply. The records whose names are given stand beside it, by their numbers, because an enum cannot hold an array.
 pub enum Shape {
     Status(usize), // a status alone
     Info, // GetInfo's information
@@ -14,26 +12,6 @@ pub enum Shape {
         count: u32,
         content: bool,
     }, // signed data for this record, with its new count, and whether there is content
-}
-
-// A reply. The records whose names are given, by their numbers, stand beside its shape, because an enum cannot hold an array; in every other shape
-// there are none.
-pub struct Reply {
-    pub shape: Shape,
-    pub named: Chosen,
-}
-
-// A reply that names no record.
-pub fn plain(shape: Shape) -> Reply
-    ensures { λ r. ⌜ r ≡ plain shape ⌝ }
-{
-    Reply {
-        shape,
-        named: Chosen {
-            records: [0usize; MAX_OWN],
-            len: 0,
-        },
-    }
 }
 
 impl Shape {

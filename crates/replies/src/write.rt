@@ -3,7 +3,6 @@ use crate::drafts::put_signed_data;
 use crate::info::put_info;
 use crate::names::pairs_len;
 use crate::names::put_names;
-use crate::reply::Reply;
 use crate::reply::Shape;
 use crate::status::put_status;
 use params::kinds::Kind;
@@ -22,27 +21,24 @@ ghost use Rattle.params.specs.Lent.{lentOf};
 ghost use Rattle.stored_table.specs.Stored.{Indexed, tableIn};
 ghost use Rattle.replies.specs.Replies.{answerOf, replySize, Short, Ready};
 
-// How many bytes a reply takes, to a command whose challenge hash is this part of it.
+// How many bytes a reply that names the records with these numbers takes, to a command whose challenge hash is this part of it.
 pub fn reply_len(
-    reply: Reply,
+    shape: Shape,
+    named: &[usize],
     challenge: Span,
     public_key: &[u8],
     nonce: &[u8],
     table: &[u8],
     places: &[usize],
 ) -> usize
-    requires { ⌜ (challenge .start ≤ challenge .end) × Short (challenge .end - challenge .start) (length (now «public_key»)) (length (now nonce)) (tableIn (now table)) reply ⌝ }
+    requires { ⌜ (challenge .start ≤ challenge .end) × Short (challenge .end - challenge .start) (length (now «public_key»)) (length (now nonce)) (tableIn (now table)) (now named) shape ⌝ }
     requires { ⌜ Indexed (now table) (now places) ⌝ }
-    ensures { λ r. ⌜ r ≡ replySize (challenge .end - challenge .start) (length (now («public_key» .entry))) (length (now (nonce .entry))) (tableIn (now (table .entry))) reply ⌝ }
+    ensures { λ r. ⌜ r ≡ replySize (challenge .end - challenge .start) (length (now («public_key» .entry))) (length (now (nonce .entry))) (tableIn (now (table .entry))) (now (named .entry)) shape ⌝ }
 {
-    let shape = reply.shape;
     match shape {
         Shape::Status(_) => 10,
         Shape::Info => 94,
-        Shape::Names => {
-            let named = reply.named;
-            10 + pairs_len(table, places, named)
-        }
+        Shape::Names => 10 + pairs_len(table, places, named),
         Shape::Registration => 84 + challenge.len() + public_key.len(),
         Shape::Signed {
             record: _,
@@ -58,7 +54,8 @@ pub fn reply_len(
 // Writes a reply of len bytes, to a command of this kind whose challenge hash is that part of it, from the front of an output that is long enough.
 pub fn write_reply(
     out: &mut [u8],
-    reply: Reply,
+    shape: Shape,
+    named: &[usize],
     len: usize,
     kind: Kind,
     command: &[u8],
@@ -73,25 +70,21 @@ pub fn write_reply(
     table: &[u8],
     places: &[usize],
 ) -> usize
-    requires { ⌜ Ready (now command) (lentOf (now aaid) numbers (now metadata) [] (now «key_id») (now «public_key») (now nonce) (now hash)) (tableIn (now table)) challenge reply ⌝ }
+    requires { ⌜ Ready (now command) (lentOf (now aaid) numbers (now metadata) [] (now «key_id») (now «public_key») (now nonce) (now hash)) (tableIn (now table)) challenge (now named) shape ⌝ }
     requires { ⌜ Indexed (now table) (now places) ⌝ }
-    requires { ⌜ (len ≡ replySize (challenge .end - challenge .start) (length (now «public_key»)) (length (now nonce)) (tableIn (now table)) reply) × (len ≤ length (now out)) ⌝ }
+    requires { ⌜ (len ≡ replySize (challenge .end - challenge .start) (length (now «public_key»)) (length (now nonce)) (tableIn (now table)) (now named) shape) × (len ≤ length (now out)) ⌝ }
     ensures { λ r. ⌜
         ((mixed : List ℕ) → Wrote (now (out .entry)) 0
         (bytesOf
         (answerOf (kindIs kind) (now (command .entry))
         (lentOf (now (aaid .entry)) numbers (now (metadata .entry)) mixed (now («key_id» .entry)) (now («public_key» .entry)) (now (nonce .entry)) (now (hash .entry)))
-        (tableIn (now (table .entry))) reply))
+        (tableIn (now (table .entry))) (now (named .entry)) shape))
         len (now (out .exit)) r) ⌝ }
 {
-    let shape = reply.shape;
     match shape {
         Shape::Status(status) => put_status(out, kind, status),
         Shape::Info => put_info(out, aaid, metadata),
-        Shape::Names => {
-            let named = reply.named;
-            put_names(out, len, table, places, named)
-        }
+        Shape::Names => put_names(out, len, table, places, named),
         Shape::Registration => put_krd(
             out,
             len,

@@ -18,7 +18,7 @@ use Rattle.model.specs.Lists.{all}
 use Rattle.model.specs.Tlv.{Bytes, Tlv, tlv, bytes, tlvs, pairTag}
 use Rattle.model.specs.Layouts.{matches, reads}
 use Rattle.model.specs.Records as model
-use Rattle.model.specs.Records.{maxRecords, tableOk, recordFields, storedAs, decode}
+use Rattle.model.specs.Records.{recordOk, maxRecords, tableOk, recordFields, storedAs, encode, decode}
 use Rattle.model.proofs.Basics.{split, impossible, both, all-append}
 use Rattle.model.proofs.Tlvs.{bytes-append, length-bytes, bytes-tlvs}
 use Rattle.model.proofs.StoredForm.{encode-stored, stored-rules}
@@ -29,9 +29,8 @@ use Rattle.tlv.specs.declared.heads.Head.the-variants.{Tlv as Found, Bad, End}
 use Rattle.tlv.proofs.HeadLaws.{IsTlv, tlv-is, end-is, head-end, run-end, run-bad, run-tlv, length-part}
 use Rattle.layouts.specs.Places.{afterGroup}
 use Rattle.layouts.proofs.PlaceLaws.{past-head, group-before}
-use Rattle.stored_table.specs.Stored.{mixedAt, tableIn}
-use Rattle.stored_table.specs.Index.{isStored, fewDistinct, Loaded, IndexIs}
-use Rattle.stored_table.specs.declared.index.Index.{Index}
+use Rattle.stored_table.specs.Stored.{mixedAt, tableIn, starts}
+use Rattle.stored_table.specs.Index.{isStored, fewDistinct, IndexIs}
 use Rattle.stored_table.proofs.IndexLaws.{Located, located, located-stand, located-keys, located-mixed, stand-within}
 use Rattle.stored_table.proofs.RunLaws.{tlvStarts, starts-more, run-starts, few-decides}
 
@@ -41,6 +40,17 @@ slice-bytes [] f = tt
 slice-bytes (x ∷ s) f = (f zero .fits, slice-bytes s (λ i. f (suc i)))
 
 -- ---- all records read
+
+-- a stretch is the stored form of n records that obey their rules and start at the first of these places
+pub record Loaded (s places : List ℕ) (n : ℕ) : Type 0 where
+  pub few : n ≤ 32
+  pub room : length places ≡ 32
+  pub table : model.Table
+  pub size : length table ≡ n
+  pub whole : encode table ≡ s
+  pub places-are : take n places ≡ starts 0 table
+  pub rules : all recordOk table ≡ true
+  pub view : decode s ≡ cond (tableOk table) (some table) none
 
 module _ {s places : List ℕ} {n : ℕ} (l : Loaded s places n) where
   all-located : Located s (take n places) (l .table)
@@ -54,18 +64,18 @@ module _ {s places : List ℕ} {n : ℕ} (l : Loaded s places n) where
   table-in d = rw d
 
   index-is : (b : Bool) → decode s ≡ cond b (some (l .table)) none → tableOk (l .table) ≡ b
-      → IndexIs s (record { ok = b; places = places; len = n })
+      → IndexIs s places (record { ok = b; len = n })
   index-is true d o =
       let i = table-in d in
       record {
-        few = l .few;
+        within = rw (l .room) (l .few);
         view = rw i d;
         indexed = λ x. record { whole = rw i (l .whole); places-are = rw i (l .places-are); ok = rw i o };
       }
-  index-is false d o = record { few = l .few; view = d; indexed = λ x. impossible cc }
+  index-is false d o = record { within = rw (l .room) (l .few); view = d; indexed = λ x. impossible cc }
 
   -- what the places and the test of these rows give
-  pub loaded-are : (b : Bool) → b ≡ fewDistinct s (take n places) → IndexIs s (record { ok = b; places = places; len = n })
+  pub loaded-are : (b : Bool) → b ≡ fewDistinct s (take n places) → IndexIs s places (record { ok = b; len = n })
   loaded-are b e =
       let keys = located-keys s (take n places) (l .table) all-located in
       let mixed = located-mixed s (take n places) (l .table) all-located in
@@ -74,8 +84,8 @@ module _ {s places : List ℕ} {n : ℕ} (l : Loaded s places n) where
       index-is b (l .view ∙ rw o) o
 
 -- where nothing decodes no index is given
-pub none-are : {s : List ℕ} {r : Index} → decode s ≡ none → (r .ok ≡ false) × (r .len ≤ 32) → IndexIs s r
-none-are d h = record { few = h .1; view = rw (h .0) d; indexed = λ x. impossible cc }
+pub none-are : {s : List ℕ} (places : List ℕ) → decode s ≡ none → IndexIs s places (record { ok = false; len = 0 })
+none-are places d = record { within = omega arith; view = d; indexed = λ x. impossible cc }
 
 -- ---- a table read up to a place
 
@@ -117,12 +127,11 @@ stored-is tag v = and-true _
 -- the first n places are those of the stored records that stand before a place
 pub record Loading (s places : List ℕ) (n place : ℕ) : Type 0 where
   pub few : n ≤ 32
-  pub size : length places ≡ 32
   pub within : place ≤ length s
   pub run : List Tlv
   pub count : length run ≡ n
   pub passed : length (bytes run) ≡ place
-  pub places-are : take n places ≡ tlvStarts 0 run
+  pub places-are : length places ≡ 32 → take n places ≡ tlvStarts 0 run
   pub match : all isStored run ≡ true
   pub rest : tlvs s ≡ ahead run (tlvs (drop place s))
 
@@ -130,34 +139,34 @@ ahead-none : (o : Option (List Tlv)) → o ≡ ahead [] o
 ahead-none none = refl
 ahead-none (some us) = refl
 
-pub loading : (s places : List ℕ) → length places ≡ 32 → Loading s places 0 0
+pub loading : (s places : List ℕ) → Loading s places 0 0
 unfolding bytes
-loading s places e =
+loading s places =
     record {
       few = omega arith;
-      size = e;
       within = omega arith;
       run = [];
       count = refl;
       passed = refl;
-      places-are = refl;
+      places-are = λ e. refl;
       match = refl;
       rest = ahead-none (tlvs s);
     }
 
 module _ {s places : List ℕ} {n place : ℕ} (p : Loading s places n place) where
   -- of a slice of bytes
-  pub load-end : ((i : ℕ) → Fits w8 (getD s i 0)) → length s ≤ place → Loaded s places n
+  pub load-end : length places ≡ 32 → ((i : ℕ) → Fits w8 (getD s i 0)) → length s ≤ place → Loaded s places n
   unfolding decode bind
-  load-end f h =
+  load-end e f h =
       let r : tlvs s ≡ some (p .run) = p .rest ∙ rw (run-end s place (head-end s place h)) (ap some (append-nil (p .run))) in
       let q = bytes-tlvs s (p .run) (slice-bytes s f) r in
       record {
         few = p .few;
+        room = e;
         table = map storedAs (p .run);
         size = rw length-map (p .count);
         whole = encode-stored (p .run) (q .held) (p .match) ∙ q .written;
-        places-are = p .places-are ∙ run-starts 0 (p .run) (q .held) (p .match);
+        places-are = p .places-are e ∙ run-starts 0 (p .run) (q .held) (p .match);
         rules = stored-rules (p .run) (q .held) (p .match);
         view = rw (r, p .match);
       }
@@ -208,12 +217,12 @@ module _ {s places : List ℕ} {n place : ℕ} (p : Loading s places n place) wh
           let few : n < 32 = omega (arith, p .few) in
           record {
             few = omega arith;
-            size = rw length-set (p .size);
             within = l;
             run = more c;
             count = rw length-append (omega (arith, p .count));
             passed = rw (bytes-append (p .run) (c ∷ []), length-append) (omega (arith, p .passed, length-bytes c [], i));
-            places-are = rw (add-one, take-suc-set places n place (rw (p .size) few), p .places-are, starts-more, p .passed, zero-add);
+            places-are = λ x. let size : length places ≡ 32 = rw length-set at x in
+                rw (add-one, take-suc-set places n place (rw size few), p .places-are size, starts-more, p .passed, zero-add);
             match = all-append isStored (p .run) (c ∷ []) (p .match) (both (stored-is pairTag v ∙ g .1) refl);
             rest = rest-more i;
           }

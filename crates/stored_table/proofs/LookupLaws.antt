@@ -23,7 +23,6 @@ use Rattle.tlv.specs.declared.heads.Spans.{Spans}
 use Rattle.tlv.proofs.HeadLaws.{empty-size}
 use Rattle.stored_table.specs.Stored.{noRecord, keyIdAt, mixedAt, recordAt, tableIn, Indexed}
 use Rattle.stored_table.specs.Chosen.{isChosen, positions, ChosenAre, ChosenOf, recordsAt}
-use Rattle.stored_table.specs.declared.lookups.Chosen.{Chosen}
 use Rattle.stored_table.proofs.IndexLaws.{record-at, length-places}
 
 -- ---- a walk over the handles given
@@ -113,20 +112,12 @@ module _ (m : List ℕ) (hs : List (List ℕ)) (t : model.Table) where
       let e = ap length (positions-select (isChosen m hs) noRecord t ∙ chosen-is) in
       omega (arith, e, length-map is g, length-select (λ r. empty hs || among (r .keyId) hs) (own m t), tests t ok .own-few m)
 
-  module _ {r : Chosen} (size : length (r .records) ≡ 8) (h : ChosenAre (positions (isChosen m hs) 0 t) r) where
-    pub chosen-records : recordsAt t r ≡ chosen hs (own m t)
-    chosen-records = ap (map (λ i. getD t i noRecord)) (h .are) ∙ positions-select (isChosen m hs) noRecord t ∙ chosen-is
+  module _ {is : List ℕ} (e : is ≡ positions (isChosen m hs) 0 t) where
+    pub chosen-records : recordsAt t is ≡ chosen hs (own m t)
+    chosen-records = ap (map (λ i. getD t i noRecord)) e ∙ positions-select (isChosen m hs) noRecord t ∙ chosen-is
 
-    pub chosen-of : ChosenOf t r
-    chosen-of =
-        let n : length (take (r .len) (r .records)) ≡ r .len = length-take-le (r .len) (r .records) (omega (arith, h .few)) in
-        record {
-          few = h .few;
-          each =
-              λ i l.
-              let k = positions-below (isChosen m hs) 0 t i (omega (arith, n, ap length (h .are))) in
-              rw (← getD-take (r .len) (r .records) i 0 l, h .are) (omega (arith, k));
-        }
+    pub chosen-of : tableOk t ≡ true → ChosenOf t is
+    chosen-of ok = rw e (record { few = chosen-few ok; each = λ i l. omega (arith, positions-below (isChosen m hs) 0 t i l) })
 
 -- ---- a walk over the records of a stored table
 
@@ -152,11 +143,11 @@ module _ (m : List ℕ) (hs : List (List ℕ)) {table places : List ℕ} (x : In
   from = positionsFrom m hs t
 
   -- all of them
-  pub chosen-all : length places ≤ i → ChosenAre (positions (isChosen m hs) 0 (tableIn table)) (record { records = records; len = len })
+  pub chosen-all : length places ≤ i → ChosenAre (positions (isChosen m hs) 0 (tableIn table)) records len
   unfolding positions
   chosen-all h =
       let none : drop i t ≡ [] = drop-of-length-le t {i = i} (omega (arith, length-places x)) in
-      record { few = c .few; are = sym (c .are ∙ rw none (append-nil (take len records))) }
+      record { within = rw (c .size) (c .few); are = sym (c .are ∙ rw none (append-nil (take len records))) }
 
   -- at record i, where a and g are what the tests of its mixed token and of its KeyID gave
   module _ (h : i < length places) (a g : Bool) (e : a ≡ eqBytes (row (getD places i 0 + mixedAt) table) m)
@@ -226,11 +217,11 @@ own-chosen m k i (r ∷ t) =
     (λ e. split (eqBytes (r .keyId) k) (λ f. rw (e, f, sym same ∙ f)) (λ f. rw (e, f, sym same ∙ f) ih))
     (λ e. rw e ih)
 
-pub own-found : (m k : List ℕ) (t : model.Table) (r : Chosen) → length (r .records) ≡ 8
-    → ChosenAre (positions (isChosen m (partsIn k (onlyHandle k))) 0 t) r → not (eqb (r .len) 0) ≡ among k (keyIds (own m t))
-own-found m k t r n h =
+pub own-found : (m k : List ℕ) (t : model.Table) {found : List ℕ} {n : ℕ}
+    → ChosenAre (positions (isChosen m (partsIn k (onlyHandle k))) 0 t) found n → not (eqb n 0) ≡ among k (keyIds (own m t))
+own-found m k t {found} {n} h =
     let is = positions (isChosen m (k ∷ [])) 0 t in
-    let q : ChosenAre is r = rw (only-is k) at h in
-    let size = length-take-le (r .len) (r .records) (omega (arith, n, q .few)) in
-    let e : empty is ≡ eqb (r .len) 0 = empty-size is (r .len) 0 (omega (arith, size, ap length (q .are))) in
+    let q : ChosenAre is found n = rw (only-is k) at h in
+    let size = length-take-le n found (q .within) in
+    let e : empty is ≡ eqb n 0 = empty-size is n 0 (omega (arith, size, ap length (q .are))) in
     ap not (sym e) ∙ sym (own-chosen m k 0 t)

@@ -7,7 +7,6 @@ use lib.ListN.{length, take, getD}
 use Rattle.model.specs.Lists.{consIf, empty, eqBytes, among}
 use Rattle.model.specs.Records as model
 use Rattle.stored_table.specs.Stored.{noRecord}
-use Rattle.stored_table.specs.declared.lookups.Chosen.{Chosen}
 
 -- a record is chosen: "records with the lent mixed token and, if key handles are given, a KeyID among them"
 abbrev pub isChosen : List ℕ → List (List ℕ) → model.Record → Bool
@@ -18,16 +17,16 @@ unfoldable pub positions : {A : Type 0} → (A → Bool) → ℕ → List A → 
 positions p i [] = []
 positions p i (x ∷ xs) = consIf (p x) i (positions p (suc i) xs)
 
--- a function chose the records with these numbers
-pub record ChosenAre (is : List ℕ) (r : Chosen) : Type 0 where
-  pub few : r .len ≤ 8
-  pub are : take (r .len) (r .records) ≡ is
+-- the records with these numbers were chosen: n of them, whose numbers stand first here
+pub record ChosenAre (is chosen : List ℕ) (n : ℕ) : Type 0 where
+  pub within : n ≤ length chosen
+  pub are : take n chosen ≡ is
 
--- what is chosen are numbers of records of this table
-pub record ChosenOf (t : model.Table) (c : Chosen) : Type 0 where
-  pub few : c .len ≤ 8
-  pub each : (i : ℕ) → i < c .len → getD (c .records) i 0 < length t
+-- these are numbers of records of this table, no more than a mixed token has
+pub record ChosenOf (t : model.Table) (is : List ℕ) : Type 0 where
+  pub few : length is ≤ 8
+  pub each : (i : ℕ) → i < length is → getD is i 0 < length t
 
--- the records chosen
-abbrev pub recordsAt : model.Table → Chosen → model.Table
-recordsAt t c = map (λ i. getD t i noRecord) (take (c .len) (c .records))
+-- the records that have these numbers
+abbrev pub recordsAt : model.Table → List ℕ → model.Table
+recordsAt t is = map (λ i. getD t i noRecord) is

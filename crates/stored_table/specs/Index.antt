@@ -5,20 +5,19 @@ use mathlib.Core.Bool.{Bool, true, cond, _&&_}
 use mathlib.Core.List.{List, [], _∷_}
 use mathlib.Core.Option.{none, some}
 use lib.ListN.{length, take}
-use Rattle.model.specs.Lists.{all, distinct}
+use Rattle.model.specs.Lists.{distinct}
 use Rattle.model.specs.Tlv.{Tlv}
 use Rattle.model.specs.Layouts.{matches}
-use Rattle.model.specs.Records as model
-use Rattle.model.specs.Records.{recordOk, storedRecord, tableOk, maxOwn, encode, decode}
+use Rattle.model.specs.Records.{storedRecord, maxOwn, decode}
 use Rattle.tlv.specs.Rows.{rows, eachFew}
-use Rattle.stored_table.specs.Stored.{keyIdAt, mixedAt, tableIn, starts, Indexed}
+use Rattle.stored_table.specs.Stored.{keyIdAt, mixedAt, tableIn, Indexed}
 use Rattle.stored_table.specs.declared.index.Index.{Index}
 
--- a reader gave this index, or none where a stretch is the stored form of no table
-pub record IndexIs (s : List ℕ) (r : Index) : Type 0 where
-  pub few : r .len ≤ 32
+-- a reader gave this index and left these places, or none where a stretch is the stored form of no table
+pub record IndexIs (s places : List ℕ) (r : Index) : Type 0 where
+  pub within : r .len ≤ length places
   pub view : decode s ≡ cond (r .ok) (some (tableIn s)) none
-  pub indexed : r .ok ≡ true → Indexed s (take (r .len) (r .places))
+  pub indexed : r .ok ≡ true → Indexed s (take (r .len) places)
 
 -- a TLV is a stored record
 abbrev pub isStored : Tlv → Bool
@@ -27,13 +26,3 @@ isStored c = matches storedRecord (c ∷ [])
 -- of the records at these places at most eight have one mixed token, and no two the same KeyID
 abbrev pub fewDistinct : List ℕ → List ℕ → Bool
 fewDistinct s places = eachFew maxOwn (rows mixedAt places s) && distinct (rows keyIdAt places s)
-
--- a stretch is the stored form of n records that obey their rules and start at these places
-pub record Loaded (s places : List ℕ) (n : ℕ) : Type 0 where
-  pub few : n ≤ 32
-  pub table : model.Table
-  pub size : length table ≡ n
-  pub whole : encode table ≡ s
-  pub places-are : take n places ≡ starts 0 table
-  pub rules : all recordOk table ≡ true
-  pub view : decode s ≡ cond (tableOk table) (some table) none

@@ -7,11 +7,9 @@ use layouts::after_group;
 use tlv::rows::all_distinct;
 use tlv::rows::each_few;
 ghost use mathlib.Core.Path.{_≡_};
-ghost use Prim.Native.Nat.{_≤_};
-ghost use mathlib.Core.Bool.{false};
 ghost use Rattle.tlv.specs.Rows.{Within};
 ghost use Rattle.stored_table.specs.Stored.{mixedAt};
-ghost use Rattle.stored_table.specs.Index.{fewDistinct, Loaded, IndexIs};
+ghost use Rattle.stored_table.specs.Index.{fewDistinct, IndexIs};
 
 // Whether records that start at these places have different KeyIDs, and each mixed token at most eight of them.
 fn obeys(table: &[u8], places: &[usize]) -> bool
@@ -24,51 +22,32 @@ fn obeys(table: &[u8], places: &[usize]) -> bool
     all_distinct(table, places, KEY_ID)
 }
 
-// Where the records of a stored table start, if there is one. What stands past their number is open.
+// How many records a stored table has, if there is one.
 pub struct Index {
     pub ok: bool,
-    pub places: [usize; MAX_RECORDS],
     pub len: usize,
 }
 
-// No table.
-fn no_index() -> Index
-    ensures { λ r. ⌜ (r .ok ≡ false) × (r .len ≤ 32) ⌝ }
+// The index of the table of which a stretch is the stored form, if it is one: how many records it has, and where they start. What stands past their
+// number is open.
+pub fn index_of(table: &[u8], places: &mut [usize; MAX_RECORDS]) -> Index
+    ensures { λ r. ⌜ IndexIs (now (table .entry)) (now (places .exit)) r ⌝ }
 {
-    Index {
-        ok: false,
-        places: [0usize; MAX_RECORDS],
-        len: 0,
-    }
-}
-
-// The index of a stretch that is a run of at most 32 stored records, if the table obeys the rules.
-fn if_ok(table: &[u8], places: [usize; MAX_RECORDS], len: usize) -> Index
-    requires { ⌜ Loaded (now table) places len ⌝ }
-    ensures { λ r. ⌜ IndexIs (now (table .entry)) r ⌝ }
-{
-    let ok = obeys(table, &places[0..len]);
-    Index { ok, places, len }
-}
-
-// The index of the table of which a stretch is the stored form, if it is one.
-pub fn index_of(table: &[u8]) -> Index
-    ensures { λ r. ⌜ IndexIs (now (table .entry)) r ⌝ }
-{
-    let mut places = [0usize; MAX_RECORDS];
     let mut len = 0;
     let mut at = 0;
     while at < table.len() {
         if len == MAX_RECORDS {
-            return no_index();
+            return Index { ok: false, len: 0 };
         }
         let end = after_group(table, at, Group::Record);
         if table.len() < end {
-            return no_index();
+            return Index { ok: false, len: 0 };
         }
         places[len] = at;
         len += 1;
         at = end;
     }
-    if_ok(table, places, len)
+    let all = &places[..];
+    let ok = obeys(table, &all[0..len]);
+    Index { ok, len }
 }

@@ -34,13 +34,6 @@ pub fn own_count(table: &[u8], places: &[usize], mixed: &[u8]) -> usize
     times_in(table, places, MIXED, 0, mixed)
 }
 
-// The records chosen, by their numbers in the table, the oldest of all being 0: at most eight, because a mixed token has no more. What stands past how
-// many they are is open.
-pub struct Chosen {
-    pub records: [usize; MAX_OWN],
-    pub len: usize,
-}
-
 // Whether no handle is given or the 32 bytes at a place are among them. The handles are parts of s.
 fn is_given(table: &[u8], place: usize, s: &[u8], handles: Spans) -> bool
     requires { ⌜ place + 32 ≤ length (now table) ⌝ }
@@ -62,26 +55,34 @@ fn is_given(table: &[u8], place: usize, s: &[u8], handles: Spans) -> bool
     false
 }
 
-// The records chosen by a mixed token and the handles given, which are parts of s.
-pub fn choose(table: &[u8], places: &[usize], mixed: &[u8], s: &[u8], handles: Spans) -> Chosen
+// How many records are chosen by a mixed token and the handles given, which are parts of s: at most eight, because a mixed token has no more. Their
+// numbers in the table, the oldest of all being 0, are put first in what is lent for them; what stands past them is open.
+pub fn choose(
+    table: &[u8],
+    places: &[usize],
+    mixed: &[u8],
+    s: &[u8],
+    handles: Spans,
+    chosen: &mut [usize],
+) -> usize
     requires { ⌜ Indexed (now table) (now places) ⌝ }
     requires { ⌜ AllInside (now s) handles ⌝ }
-    ensures { λ r. ⌜ ChosenAre (positions (isChosen (now (mixed .entry)) (partsIn (now (s .entry)) handles)) 0 (tableIn (now (table .entry)))) r ⌝ }
+    requires { ⌜ length (now chosen) ≡ 8 ⌝ }
+    ensures { λ r. ⌜ ChosenAre (positions (isChosen (now (mixed .entry)) (partsIn (now (s .entry)) handles)) 0 (tableIn (now (table .entry)))) (now (chosen .exit)) r ⌝ }
 {
-    let mut records = [0usize; MAX_OWN];
     let mut len = 0;
     let mut i = 0;
     while i < places.len() {
         let place = places[i];
         if row_is(table, place + MIXED, mixed) {
             if is_given(table, place + KEY_ID, s, handles) {
-                records[len] = i;
+                chosen[len] = i;
                 len += 1;
             }
         }
         i += 1;
     }
-    Chosen { records, len }
+    len
 }
 
 // Whether a mixed token has a record with this KeyID: one is chosen by it as the only handle.
@@ -97,6 +98,6 @@ pub fn is_own(table: &[u8], places: &[usize], mixed: &[u8], key: &[u8]) -> bool
         at: [whole; 8],
         len: 1,
     };
-    let found = choose(table, places, mixed, key, handles);
-    found.len != 0
+    let mut found = [0usize; MAX_OWN];
+    choose(table, places, mixed, key, handles, &mut found) != 0
 }

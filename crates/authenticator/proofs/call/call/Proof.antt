@@ -3,6 +3,7 @@ use denote.Ref.{now}
 use mathlib.Core.Path.{_≡_, sym, _∙_}
 use mathlib.Core.Option.{some}
 use Prim.Native.Nat.{_≤_}
+use native.Mathlib.Nat.{sub-zero}
 use lib.ListN.{length}
 use borrow.Author.Needs.{needs}
 use borrow.Author.Tests.{not-true, not-false}
@@ -22,7 +23,7 @@ room : (c : tie.Else1) → (leastOutput ≤ length (now (start c .args .response
 room c = long-enough _ _ (c .before .is-short .ensures) (c .if1 .left)
 
 -- past refusal 2 there is a table
-read : (c : tie.Else2) → let s = start (c .before .before .before) .args .table in tableOf (stored (now s)) ≡ some (tableIn (now s))
+read : (c : tie.Else2) → let s = start (c .before .before .before .before) .args .table in tableOf (stored (now s)) ≡ some (tableIn (now s))
 read c = read-is _ (c .before .before .index-of .ensures) (not-false _ (c .if2 .left))
 
 returns : tie.Need-returns
@@ -30,14 +31,14 @@ returns c = ends-refused 1 _ _ (short-output _ _ (too-short _ _ (c .before .is-s
 
 returns-2 : tie.Need-returns-2
 returns-2 c =
-    let r = room (c .before .before .before) in
+    let r = room (c .before .before .before .before) in
     ends-refused 2 _ _
     (no-table _ _ (r .0) (r .1) (not-read _ (c .before .before .index-of .ensures) (not-true _ (c .if2 .taken))))
 
 returns-3 : tie.Need-returns-3
 returns-3 c =
     let t = c .before .before .before in
-    let r = room (t .before .before .before) in
+    let r = room (t .before .before .before .before) in
     ends-refused 3 _ _
     (no-command _ _ (r .0) (r .1) _ (read t) (kind-named (c .enum-told .given .1) (c .before .before .kind-of .ensures)))
 
@@ -45,26 +46,26 @@ returns-4 : tie.Need-returns-4
 returns-4 c =
     let n = c .before .before .before in
     let t = n .before .before .before in
-    let r = room (t .before .before .before) in
+    let r = room (t .before .before .before .before) in
     ends-refused 4 _ _
     (wrongly-lent _ _ (r .0) (r .1) _ (read t) _ (kind-named (n .named .given .1) (n .before .before .kind-of .ensures))
     (sym (c .before .lent-ok .ensures) ∙ not-true _ (c .if3 .taken)))
 
 perform-requires : tie.Need-perform-requires
 perform-requires c κs =
-    let l = c .before .before in
+    let l = c .before .before .before .before in
     let t = l .before .before .before .before .before .before in
-    let i = t .before .before .index-of .ensures in
+    let k = t .before .before .index-of in
     let e = sym (l .before .lent-ok .ensures) ∙ not-false _ (l .if3 .left) in
-    (e, ((i, not-false _ (t .if2 .left)), room (t .before .before .before)))
+    (e, (rw (sub-zero (k .result .len)) (k .ensures .indexed (not-false _ (t .if2 .left))), room (t .before .before .before .before)))
 
 returns-5 : tie.Need-returns-5
 returns-5 c =
     let p = c .before .before .before .before in
-    let l = p .before .before .before in
+    let l = p .before .before .before .before .before in
     let n = l .before .before .before in
     let t = n .before .before .before in
-    let r = room (t .before .before .before) in
+    let r = room (t .before .before .before .before) in
     ends-same _
     (performs _ _ (r .0) (r .1) _ (read t) _ (kind-named (n .named .given .1) (n .before .before .kind-of .ensures))
     (sym (l .before .lent-ok .ensures) ∙ not-false _ (l .if3 .left)))
@@ -74,4 +75,5 @@ pub call-spec : {M : Type 1} → statement M
 call-spec =
     tie.close
     (tie.spec (λ c κs. search needs) returns (λ c κs. search needs) returns-2 (λ c κs. search needs) (λ c. search needs) (λ c. search needs)
-    returns-3 (λ c κs. search needs) returns-4 perform-requires (λ c. search needs) (λ c. search needs) returns-5)
+    returns-3 (λ c κs. search needs) returns-4 (λ c. search needs) (λ c. search needs) (λ c. search needs) perform-requires
+    (λ c. search needs) (λ c. search needs) returns-5)

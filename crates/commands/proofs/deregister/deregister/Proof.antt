@@ -7,13 +7,13 @@ use Rattle.commands.proofs.deregister.deregister.Tie as tie
 returns : tie.Need-returns
 returns c =
     let j = c .before .before .before .before in
-    λ n k. rw (c .only .ensures) (fails (deregister-checked _ _ _ _ _) (j .judge-deregister .ensures) (c .before .before .judged .given .1))
+    λ n k chosen. rw (c .only .ensures) (fails (deregister-checked _ _ _ _ _) (j .judge-deregister .ensures) (c .before .before .judged .given .1))
 
 returns-2 : tie.Need-returns-2
 returns-2 c =
     let j = c .before .before .before .before in
     let s = j .before .before .before .before .before in
-    λ n k. rw (c .before .plain .ensures)
+    λ n k chosen. rw (c .plain .ensures)
     (deregistered _ _ _ _ _ (s .pre .0) (j .judge-deregister .ensures) (c .before .before .enum-told .given .1))
 
 pub deregister-spec : {M : Type 1} → statement M

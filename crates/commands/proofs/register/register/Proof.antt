@@ -7,13 +7,13 @@ use Rattle.commands.proofs.register.register.Tie as tie
 returns : tie.Need-returns
 returns c =
     let j = c .before .before .before .before in
-    rw (c .only .ensures) (fails (register-checked _ _ _ _ _) (j .judge-register .ensures) (c .before .before .judged .given .1))
+    λ chosen. rw (c .only .ensures) (fails (register-checked _ _ _ _ _) (j .judge-register .ensures) (c .before .before .judged .given .1))
 
 returns-2 : tie.Need-returns-2
 returns-2 c =
     let j = c .before .before .before .before in
     let s = j .before .before .before .before .before .before in
-    rw (c .before .plain .ensures)
+    λ chosen. rw (c .plain .ensures)
     (registered _ _ _ _ _ (s .pre .0) (j .judge-register .ensures) (c .before .before .enum-told .given .1) (s .pre .1 .0 .0)
     (s .pre .1 .0 .1))
 

@@ -11,11 +11,11 @@ use Rattle.key_table.proofs.forms.store.Statement.{statement}
 use Rattle.key_table.proofs.forms.store.Tie as tie
 
 abbrev start : tie.After-index-of → tie.Start
-start c = c .before .before .before .before .before .before .before .before
+start c = c .before .before .before .before .before .before .before .before .before
 
 -- the form is that of a table if the table obeys the rules
 ok-is : (c : tie.After-index-of) → c .index-of .result .ok ≡ tableOk (viewTable (start c .args .t))
-ok-is c = form-ok (c .before .before .before .before .put-form .ensures) (rw sub-zero at (c .index-of .ensures))
+ok-is c = form-ok (c .before .before .before .before .before .put-form .ensures) (rw sub-zero at (c .index-of .ensures))
 
 returns : tie.Need-returns
 returns c = stores-short _ _ (c .if1 .taken)
@@ -23,15 +23,15 @@ returns c = stores-short _ _ (c .if1 .taken)
 returns-2 : tie.Need-returns-2
 returns-2 c =
     let i = c .before .before in
-    stores-broken _ _ (i .before .before .before .before .before .before .if1 .left) (sym (ok-is i) ∙ not-true _ (c .if2 .taken))
+    stores-broken _ _ (i .before .before .before .before .before .before .before .if1 .left) (sym (ok-is i) ∙ not-true _ (c .if2 .taken))
 
 returns-3 : tie.Need-returns-3
 returns-3 c =
     let f = c .before .before .before .before .before .before in
     let i = f .before .before in
     let ok = sym (ok-is i) ∙ not-false _ (f .if2 .left) in
-    let form = i .before .before .before .before .put-form .ensures .whole ok in
-    stores-form _ _ (i .before .before .before .before .before .before .if1 .left) ok
+    let form = i .before .before .before .before .before .put-form .ensures .whole ok in
+    stores-form _ _ (i .before .before .before .before .before .before .before .if1 .left) ok
     (same (rw sub-zero form) refl (c .before .before .put-bytes .ensures))
 
 pub store-spec : {M : Type 1} → statement M

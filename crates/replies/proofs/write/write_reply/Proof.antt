@@ -18,20 +18,20 @@ use Rattle.replies.proofs.write.write_reply.Tie as tie
 put-status-requires : tie.Need-put-status-requires
 put-status-requires c κs =
     let a = c .before .before in
-    let s = a .before .before .before .before .before .before .before .before .before .before .before .before in
+    let s = a .before .before .before .before .before .before .before .before .before .before .before .before .before in
     omega (arith, s .pre .1 .1 .1, s .pre .1 .1 .0 ∙ size-by _ (a .shape .given .1) _ _ _ _)
 
 returns : tie.Need-returns
 returns c mixed =
     let a = c .before .before .before .before .before in
-    let s = a .before .before .before .before .before .before .before .before .before .before .before .before in
+    let s = a .before .before .before .before .before .before .before .before .before .before .before .before .before in
     let e = a .shape .given .1 in
     wrote-by _ e _ _ _ _ (same refl (sym (s .pre .1 .1 .0 ∙ size-by _ e _ _ _ _)) (c .before .before .put-status .ensures))
 
 put-info-requires : tie.Need-put-info-requires
 put-info-requires c κs =
     let a = c .before in
-    let s = a .before .before .before .before .before .before .before .before .before .before .before .before in
+    let s = a .before .before .before .before .before .before .before .before .before .before .before .before .before in
     let e = a .enum-told .given .1 in
     let g = ready-by _ e (s .pre .0) in
     (g .0, g .1, omega (arith, s .pre .1 .1 .1, s .pre .1 .1 .0 ∙ size-by _ e _ _ _ _))
@@ -39,33 +39,33 @@ put-info-requires c κs =
 returns-2 : tie.Need-returns-2
 returns-2 c mixed =
     let a = c .before .before .before .before in
-    let s = a .before .before .before .before .before .before .before .before .before .before .before .before in
+    let s = a .before .before .before .before .before .before .before .before .before .before .before .before .before in
     let e = a .enum-told .given .1 in
     wrote-by _ e _ _ _ _ (same (sym (info-is _)) (sym (s .pre .1 .1 .0 ∙ size-by _ e _ _ _ _)) (c .before .before .put-info .ensures))
 
 put-names-requires : tie.Need-put-names-requires
 put-names-requires c κs =
-    let a = c .before .before in
-    let s = a .before .before .before .before .before .before .before .before .before .before .before .before in
+    let a = c .before in
+    let s = a .before .before .before .before .before .before .before .before .before .before .before .before .before in
     let size = s .pre .1 .1 .0 ∙ size-by _ (a .enum-told2 .given .1) _ _ _ _ in
     (s .pre .1 .0, (s .pre .0 .named-there, (size, s .pre .1 .1 .1)))
 
 returns-3 : tie.Need-returns-3
 returns-3 c mixed =
-    wrote-by _ (c .before .before .before .before .before .enum-told2 .given .1) _ _ _ _ (c .before .before .put-names .ensures)
+    wrote-by _ (c .before .before .before .before .enum-told2 .given .1) _ _ _ _ (c .before .before .put-names .ensures)
 
 -- ---- a registration
 
 part-of-requires : tie.Need-part-of-requires
 part-of-requires c κs =
     let a = c .before in
-    let s = a .before .before .before .before .before .before .before .before .before .before .before .before in
+    let s = a .before .before .before .before .before .before .before .before .before .before .before .before .before in
     ready-by _ (a .enum-told3 .given .1) (s .pre .0) .challenge .inside
 
 put-krd-requires : tie.Need-put-krd-requires
 put-krd-requires c κs =
     let a = c .before .before in
-    let s = a .before .before .before .before .before .before .before .before .before .before .before .before in
+    let s = a .before .before .before .before .before .before .before .before .before .before .before .before .before in
     let e = a .enum-told3 .given .1 in
     let g = ready-by _ e (s .pre .0) in
     let size = s .pre .1 .1 .0 ∙ size-by _ e _ _ _ _ in (
@@ -76,7 +76,7 @@ put-krd-requires c κs =
 returns-4 : tie.Need-returns-4
 returns-4 c mixed =
     let a = c .before .before .before .before .before in
-    let s = a .before .before .before .before .before .before .before .before .before .before .before .before in
+    let s = a .before .before .before .before .before .before .before .before .before .before .before .before .before in
     let e = a .enum-told3 .given .1 in
     let hash = c .before .before .before .part-of .ensures ∙ ready-by _ e (s .pre .0) .challenge .value in
     wrote-by _ e _ _ _ _ (rw (register-draft _ _) (rw hash at (c .before .before .put-krd .ensures)))
@@ -85,7 +85,7 @@ returns-4 c mixed =
 
 module _ (c : tie.After-put-signed-data-arg) where
   abbrev s : tie.Start
-  s = c .before .before .before .before .before .before .before .before .before .before .before .before .before .before
+  s = c .before .before .before .before .before .before .before .before .before .before .before .before .before .before .before
 
   abbrev i : ℕ
   i = c .before .before .shape2 .given .0 .0

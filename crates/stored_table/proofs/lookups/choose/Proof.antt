@@ -15,19 +15,19 @@ use Rattle.stored_table.proofs.lookups.choose.Statement.{statement}
 use Rattle.stored_table.proofs.lookups.choose.Tie as tie
 
 abbrev Inv-loop : tie.InvT-loop
-Inv-loop table places mixed s handles records₀ len₀ i₀ records len i = Choosing mixed (partsIn s handles) (tableIn table) records len i
+Inv-loop table places mixed s handles chosen₀ len₀ i₀ chosen len i = Choosing mixed (partsIn s handles) (tableIn table) chosen len i
 
 abbrev μ-loop : tie.MeasureT-loop
-μ-loop table places mixed s handles records₀ len₀ i₀ records len i = length places - i
+μ-loop table places mixed s handles chosen₀ len₀ i₀ chosen len i = length places - i
 
 -- the record at hand lies in the stretch
 there : (c : tie.After-shared-slice-known5 Inv-loop μ-loop)
-    → let a = c .before .before .before .before .before .before .before .args in
+    → let a = c .before .before .before .before .before .before .before .before .args in
     Stands (now (a .table)) (getD (now (a .places)) (c .before .before .loop .i) 0)
-there c = all-stand (c .before .before .before .before .before .before .before .pre .0) .each _ (c .before .loop-test .taken)
+there c = all-stand (c .before .before .before .before .before .before .before .before .pre .0) .each _ (c .before .loop-test .taken)
 
 loop-holds : tie.Need-loop-holds Inv-loop μ-loop
-loop-holds c = choosing _ _ _ _ refl
+loop-holds c = choosing _ _ _ _ (c .before .before .before .before .before .pre .1 .1)
 
 add-row-is : tie.Need-add-row-is Inv-loop μ-loop
 add-row-is c = omega (arith, there c)
@@ -46,13 +46,13 @@ room : (c : tie.Then2 Inv-loop μ-loop) → c .before .before .before .before .b
 room c =
     let r = c .before .before .before in
     let l = r .before .before .before in
-    chosen-room _ _ (l .before .before .before .before .before .pre .0) (l .loop .inv) (r .before .before .loop-test .taken) _ _
+    chosen-room _ _ (l .before .before .before .before .before .before .pre .0) (l .loop .inv) (r .before .before .loop-test .taken) _ _
     (r .row-is .ensures) (c .before .is-given .ensures) (both (c .before .before .if1 .taken) (c .if2 .taken))
 
 loop-again : tie.Need-loop-again Inv-loop μ-loop
 loop-again c =
     let l = c .before .before .before .before in
-    let x = l .before .before .before .before .before .pre .0 in
+    let x = l .before .before .before .before .before .before .pre .0 in
     let h = c .before .before .before .loop-test .taken in
     let own = c .before .row-is .ensures in
     ⊎-elim
@@ -63,11 +63,11 @@ loop-again c =
     (c .if1 .came)
 
 returns : tie.Need-returns Inv-loop μ-loop
-returns c = chosen-all _ _ (c .before .before .before .before .before .before .pre .0) (c .before .loop .inv) (c .loop-test .left)
+returns c = chosen-all _ _ (c .before .before .before .before .before .before .before .pre .0) (c .before .loop .inv) (c .loop-test .left)
 
 pub choose-spec : {M : Type 1} → statement M
 choose-spec =
     tie.close
     (tie.spec Inv-loop μ-loop loop-holds (λ c. search needs) (λ c. search needs) add-row-is row-is-requires add-is-given is-given-requires
     (λ c. omega (arith, room c)) (λ c. omega (arith, room c)) (λ c. omega (arith, room c)) (λ c. search needs) (λ c. search needs)
-    loop-again returns)
+    loop-again (λ c. search needs) returns)
