@@ -1,27 +1,23 @@
--- The outer tag alone names the command; the slots of the fields that commands list, the code's table of them, and which child passes.
+-- The outer tag alone names the command; the slots of the fields that commands list, what a command's listing says of each, and which child passes
+-- or is taken.
 -- Assumes nothing.
 use mathlib.Core.Path.{_≡_, refl, sym, ap, _∙_}
-use mathlib.Core.Bool.{Bool, true, cond}
-use mathlib.Core.List.{List, [], _∷_, map}
+use mathlib.Core.Bool.{Bool, true, false, not, cond, _&&_, _||_}
+use mathlib.Core.List.{List, [], _∷_, _++_, map}
 use mathlib.Core.Option.{Option, none, some, Option·map}
 use Prim.Native.Nat.{ℕ, zero, suc, _≤_, _<_}
 use native.Mathlib.Numerals.{lt-of-le-of-ne}
 use native.Mathlib.Omega.{arith}
-use lib.ListN.{length, getD}
-use lib.Dec.{ltb, eqb}
-use borrow.Author.Tests.{le-leb, lt-leb, ltb-true, eqb-true, ne-eqb}
-use Rattle.model.specs.Lists.{all, first, select}
+use lib.ListN.{length, take, getD}
+use lib.Dec.{leb, ltb, eqb}
+use borrow.Author.Tests.{le-leb, lt-leb, leb-true, ltb-true, ltb-false, eqb-true, eqb-false, eq-eqb, ne-eqb, not-false}
+use Rattle.model.specs.Lists.{all, first, select, eqBytes}
 use Rattle.model.specs.Tlv as model
-use Rattle.model.specs.Tlv.{Tlv, Field, keyHandle, Listed, getInfo, register, sign, deregister, openSettings, commandTag, kinds, kindOf, fieldsOf, tagOf, fits, listed, childOk, skippable}
-use Rattle.model.proofs.Basics.{split, and-left, and-right, NoneOf, impossible}
+use Rattle.model.specs.Tlv.{Tlv, critical, Field, keyHandle, Listed, getInfo, register, sign, deregister, openSettings, commandTag, kinds, kindOf, fieldsOf, ruleOf, tagOf, fits, listed, childOk, skippable}
+use Rattle.model.proofs.Basics.{split, clash, and-left, and-right, NoneOf, impossible}
 use Rattle.tlv.specs.Numbers.{numAt}
-use Rattle.params.specs.Kinds.{kindIs}
-use Rattle.params.specs.Slots.{commandFields, slots, slotField, placeOf, slotOf, timesFor, listingFor}
-use Rattle.params.specs.Children.{childPasses}
-use Rattle.params.specs.declared.kinds.Kind as code
-use Rattle.params.specs.declared.kinds.Kind.the-variants.{GetInfo, Register, Sign, Deregister, OpenSettings}
-use Rattle.params.specs.declared.kinds.Times.{Times}
-use Rattle.params.specs.declared.kinds.Listing.{Listing}
+use Rattle.params.specs.Slots.{commandFields, slots, slotField, placeOf, slotOf, mostFor, bySlot}
+use Rattle.params.specs.Children.{childPasses, childTaken}
 
 -- ---- which command it is
 
@@ -59,12 +55,18 @@ not-below : (x n : ℕ) → NotBelow x n → n ≤ x
 not-below x zero h = omega arith
 not-below x (suc n) h = lt-of-le-of-ne (not-below x n (h .0)) (λ e. h .1 (sym e))
 
--- the last slot is what remains
-pub slot-last : (slot : ℕ) → slot < slots → NotBelow slot 9 → keyHandle ≡ slotField slot
-slot-last slot h k =
-    let least : 9 ≤ slot = not-below slot 9 k in
-    let e : slot ≡ 9 = omega arith in
-    rw e
+-- the last of a list is what remains
+getD-last : {A : Type 0} (xs : List A) (x : A) (i : ℕ) → length xs ≤ i → getD (xs ++ (x ∷ [])) i x ≡ x
+getD-last [] x zero h = refl
+getD-last [] x (suc i) h = refl
+getD-last (y ∷ xs) x zero h = absurd (omega arith)
+getD-last (y ∷ xs) x (suc i) h = getD-last xs x i (omega arith)
+
+slot-from : (slot : ℕ) → 9 ≤ slot → slotField slot ≡ keyHandle
+slot-from slot h = getD-last (take 9 commandFields) keyHandle slot h
+
+pub slot-last : (slot : ℕ) → NotBelow slot 9 → slotField slot ≡ keyHandle
+slot-last slot k = slot-from slot (not-below slot 9 k)
 
 -- a tag that is none of the fields'
 place-none : {K : Type 0} (tag : ℕ) (fs : List Field) → NoneOf tagOf K tag fs → K × (placeOf tag fs ≡ length fs)
@@ -76,6 +78,15 @@ place-none tag (f ∷ fs) h =
 pub slot-none : (tag : ℕ) → NoneOf tagOf (Unit {0}) tag commandFields → slotOf tag ≡ slots
 unfolding slotOf
 slot-none tag h = place-none tag commandFields h .1
+
+place-most : (tag : ℕ) (fs : List Field) → placeOf tag fs ≤ length fs
+place-most tag [] = omega arith
+place-most tag (f ∷ fs) =
+    split (eqb (tagOf f) tag) (λ e. rw e (omega arith)) (λ e. rw e (omega (arith, place-most tag fs)))
+
+pub slot-most : (tag : ℕ) → slotOf tag ≤ slots
+unfolding slotOf
+slot-most tag = place-most tag commandFields
 
 place-tag : (tag : ℕ) (fs : List Field) (f : Field) → placeOf tag fs < length fs → tagOf (getD fs (placeOf tag fs) f) ≡ tag
 place-tag tag [] f h = absurd (omega arith)
@@ -89,36 +100,103 @@ pub slot-tag : (tag : ℕ) → slotOf tag < slots → tagOf (slotField (slotOf t
 unfolding slotOf
 slot-tag tag h = place-tag tag commandFields keyHandle h
 
--- ---- how often a field is given
+-- ---- the slots, one by one
 
--- what a listing says of a command
-abbrev pub column : code.Kind → Listing → Times
-column GetInfo r = r .0
-column Register r = r .1
-column Sign r = r .2
-column Deregister r = r .3
-column OpenSettings r = r .4
+-- a test of each number below a bound
+abbrev allBelow : ℕ → (ℕ → Bool) → Bool
+allBelow zero p = true
+allBelow (suc n) p = p n && allBelow n p
 
-column-is : (k : code.Kind) (slot : ℕ) → column k (listingFor slot) ≡ timesFor (kindIs k) (slotField slot)
-column-is GetInfo slot = refl
-column-is Register slot = refl
-column-is Sign slot = refl
-column-is Deregister slot = refl
-column-is OpenSettings slot = refl
+below : (n : ℕ) (p : ℕ → Bool) → allBelow n p ≡ true → (j : ℕ) → j < n → p j ≡ true
+below zero p e j h = absurd (omega arith)
+below (suc n) p e j h =
+    split (eqb j n) (λ d. rw (eqb-true j n d) (and-left _ _ e))
+    (λ d. let k = eqb-false j n d in below n p (and-right (p n) _ e) j (omega arith))
 
--- the arm of a kind, and the listing of a slot
-pub times-at : {kind k : code.Kind} (slot : ℕ) {r : Listing} → kind ≡ k → r ≡ listingFor slot → column k r ≡ timesFor (kindIs kind) (slotField slot)
-times-at {kind} {k} slot e f = rw (f, e) (column-is k slot)
+-- of each command and each slot
+pub at-kind : (p : model.Kind → ℕ → Bool) → all (λ k. allBelow slots (p k)) kinds ≡ true → (k : model.Kind) (j : ℕ) → j < slots → p k j ≡ true
+at-kind p e k j h = below slots (p k) (go k) j h
+  where
+    go : (k : model.Kind) → allBelow slots (p k) ≡ true
+    go getInfo = search (and-left, and-right, e)
+    go register = search (and-left, and-right, e)
+    go sign = search (and-left, and-right, e)
+    go deregister = search (and-left, and-right, e)
+    go openSettings = search (and-left, and-right, e)
 
--- the last listing is what remains
-pub listing-last : (slot : ℕ) → slot < slots → NotBelow slot 9 → listingFor 9 ≡ listingFor slot
-listing-last slot h k =
-    let least : 9 ≤ slot = not-below slot 9 k in
-    let e : slot ≡ 9 = omega arith in
-    rw e
+-- no two slots have one tag
+pub slot-own : (j : ℕ) → j < slots → slotOf (tagOf (slotField j)) ≡ j
+unfolding slotOf
+slot-own j h = eqb-true _ _ (below slots (λ i. eqb (slotOf (tagOf (slotField i))) i) refl j h)
+
+-- each is critical
+slot-critical : (j : ℕ) → j < slots → critical (tagOf (slotField j)) ≡ true
+slot-critical j h = below slots (λ i. critical (tagOf (slotField i))) refl j h
+
+-- ---- how often a command must and may be given a slot's field
+
+-- a listing at a slot
+entry-in : (n : Field → ℕ) (fs : List Field) (i : ℕ) (f : Field) → i < length fs → getD (map n fs ++ (0 ∷ [])) i 0 ≡ n (getD fs i f)
+entry-in n [] i f h = absurd (omega arith)
+entry-in n (g ∷ fs) zero f h = refl
+entry-in n (g ∷ fs) (suc i) f h = entry-in n fs i f (omega arith)
+
+entry-past : (n : Field → ℕ) (fs : List Field) (i : ℕ) → length fs ≤ i → getD (map n fs ++ (0 ∷ [])) i 0 ≡ 0
+entry-past n [] zero h = refl
+entry-past n [] (suc i) h = refl
+entry-past n (g ∷ fs) zero h = absurd (omega arith)
+entry-past n (g ∷ fs) (suc i) h = entry-past n fs i (omega arith)
+
+pub entry-at : (n : Field → ℕ) (slot : ℕ) → slot < slots → getD (bySlot n) slot 0 ≡ n (slotField slot)
+entry-at n slot h = entry-in n commandFields slot keyHandle h
+
+-- how many places there are for a slot's values
+abbrev pub room : ℕ → ℕ
+room slot = cond (eqb slot 9) 8 1
+
+room-most : (slot : ℕ) → room slot ≤ 8
+room-most slot = split (eqb slot 9) (λ e. rw e (omega arith)) (λ e. rw e (omega arith))
+
+-- they are enough for every command
+pub most-room : (k : model.Kind) (j : ℕ) → j < slots → mostFor k (slotField j) ≤ room j
+unfolding mostFor
+most-room k j h = leb-true _ _ (at-kind (λ k i. leb (mostFor k (slotField i)) (room i)) refl k j h)
+
+-- ---- whether a value obeys the rule of a slot's field
+
+module _ (f : Field) (v : List ℕ) {least : ℕ} (l : least ≡ ruleOf f .least) where
+  pub fits-short : length v < least → fits f v ≡ false
+  unfolding fits
+  fits-short h = simp (lt-leb _ _ (rw l at h))
+
+  module _ {most : ℕ} (m : most ≡ ruleOf f .most) (h : least ≤ length v) where
+    pub fits-long : most < length v → fits f v ≡ false
+    unfolding fits
+    fits-long k = simp (le-leb _ _ (rw l at h), lt-leb _ _ (rw m at k))
+
+    pub fits-else : length v ≤ most → fits f v ≡ ruleOf f .allowed v
+    unfolding fits
+    fits-else k = simp (le-leb _ _ (rw l at h), le-leb _ _ (rw m at k))
+
+-- the one byte of an index
+pub index-byte : (v : List ℕ) → length v ≡ 1 → eqb (getD v 0 0) 0 ≡ eqBytes (0 ∷ []) v
+unfolding eqBytes
+index-byte [] e = absurd (omega arith)
+index-byte (x ∷ []) e =
+    split (eqb x 0) (λ d. d ∙ sym (rw (eqb-true x 0 d))) (λ d. d ∙ sym (rw (ne-eqb 0 x (λ z. eqb-false x 0 d (sym z)))))
+index-byte (x ∷ y ∷ v) e = absurd (omega arith)
+
+-- of any other value but a KeyID's nothing is asked but its length
+pub any-value : (slot : ℕ) (v : List ℕ) → (slot ≡ 0 → ⊥) → (slot ≡ 6 → ⊥) → ruleOf (slotField slot) .allowed v ≡ true
+any-value slot v h k =
+    split (ltb slot slots)
+    (λ e. let test : (eqb slot 0 || (eqb slot 6 || ruleOf (slotField slot) .allowed v)) ≡ true =
+    below slots (λ j. eqb j 0 || (eqb j 6 || ruleOf (slotField j) .allowed v)) refl slot (ltb-true _ _ e) in
+    rw (ne-eqb slot 0 h, ne-eqb slot 6 k) at test)
+    (λ e. let past : slots ≤ slot = ltb-false _ _ e in rw (slot-from slot (omega arith)))
 
 -- the place lies within, so what reading past the end would give is open
-map-at : {A B : Type 0} (f : A → B) (xs : List A) (i : ℕ) (a : A) (b : B) → i < length xs → f (getD xs i a) ≡ getD (map f xs) i b
+pub map-at : {A B : Type 0} (f : A → B) (xs : List A) (i : ℕ) (a : A) (b : B) → i < length xs → f (getD xs i a) ≡ getD (map f xs) i b
 map-at f [] i a b h = absurd (omega arith)
 map-at f (x ∷ xs) zero a b h = refl
 map-at f (x ∷ xs) (suc i) a b h = map-at f xs i a b (omega arith)
@@ -130,11 +208,11 @@ abbrev fieldWith : model.Kind → ℕ → Option Field
 fieldWith k tag = Option·map (λ (l : Listed). l .field) (listed (fieldsOf k) tag)
 
 -- it lists the fields that it may be given
-abbrev fieldIf : Times → Field → Option Field
-fieldIf t f = cond (eqb (t .most) 0) none (some f)
+abbrev fieldIf : ℕ → Field → Option Field
+fieldIf most f = cond (eqb most 0) none (some f)
 
-fields-are : (k : model.Kind) → map (λ f. fieldWith k (tagOf f)) commandFields ≡ map (λ f. fieldIf (timesFor k f) f) commandFields
-unfolding timesFor
+fields-are : (k : model.Kind) → map (λ f. fieldWith k (tagOf f)) commandFields ≡ map (λ f. fieldIf (mostFor k f) f) commandFields
+unfolding mostFor
 fields-are getInfo = refl
 fields-are register = refl
 fields-are sign = refl
@@ -142,11 +220,11 @@ fields-are deregister = refl
 fields-are openSettings = refl
 
 field-at : (k : model.Kind) (slot : ℕ) → slot < slots
-    → fieldWith k (tagOf (slotField slot)) ≡ fieldIf (timesFor k (slotField slot)) (slotField slot)
+    → fieldWith k (tagOf (slotField slot)) ≡ fieldIf (mostFor k (slotField slot)) (slotField slot)
 field-at k slot h =
     map-at (λ f. fieldWith k (tagOf f)) commandFields slot keyHandle none h
     ∙ ap (λ (fs : List (Option Field)). getD fs slot none) (fields-are k)
-    ∙ sym (map-at (λ f. fieldIf (timesFor k f) f) commandFields slot keyHandle none h)
+    ∙ sym (map-at (λ f. fieldIf (mostFor k f) f) commandFields slot keyHandle none h)
 
 -- every listed field has a slot
 slotted : (k : model.Kind) → all (λ l. ltb (slotOf (tagOf (l .field))) slots) (fieldsOf k) ≡ true
@@ -177,23 +255,85 @@ ok-unlisted : (c : Tlv) (o : Option Listed) → Option·map (λ (l : Listed). l 
 ok-unlisted c none e = refl
 ok-unlisted c (some l) e = impossible cc
 
-module _ (k : model.Kind) (c : Tlv) {slot : ℕ} (s : slot ≡ slotOf (c .tag)) where
-  pub child-other : slots ≤ slot → childPasses k c ≡ skippable c
-  unfolding childPasses
-  child-other h = rw (none-listed (fieldsOf k) (c .tag) (slotted k) (rw s at h))
-
+-- what a command's listing says at the slot of a child's tag
+module _ (k : model.Kind) (c : Tlv) {slot most : ℕ} (s : slot ≡ slotOf (c .tag)) (m : most ≡ getD (bySlot (mostFor k)) slot 0) where
   tag-is : slot < slots → tagOf (slotField slot) ≡ c .tag
   tag-is h = rw s (slot-tag (c .tag) (rw s at h))
 
-  -- what the times of its slot's field say
-  module _ {t : Times} (e : t ≡ timesFor k (slotField slot)) (h : slot < slots) where
-    child-field : fieldWith k (c .tag) ≡ fieldIf t (slotField slot)
-    child-field = rw (← tag-is h, e) (field-at k slot h)
+  child-field : slot < slots → fieldWith k (c .tag) ≡ fieldIf most (slotField slot)
+  child-field h = rw (← tag-is h, m, entry-at (mostFor k) slot h) (field-at k slot h)
 
-    pub child-never : t .most ≡ 0 → childPasses k c ≡ skippable c
-    unfolding childPasses
-    child-never n = ok-unlisted c (listed (fieldsOf k) (c .tag)) (child-field ∙ rw n)
+  -- a child that the command does not list
+  passes-never : most ≡ 0 → childPasses k c ≡ skippable c
+  unfolding childPasses
+  passes-never n =
+      split (ltb slot slots)
+      (λ e. ok-unlisted c (listed (fieldsOf k) (c .tag)) (child-field (ltb-true _ _ e) ∙ rw n))
+      (λ e. let h : slots ≤ slot = ltb-false _ _ e in rw (none-listed (fieldsOf k) (c .tag) (slotted k) (rw s at h)))
 
-    pub child-fits : {f : Field} → (t .most ≡ 0 → ⊥) → f ≡ slotField slot → childPasses k c ≡ fits f (c .value)
+  -- one that it lists
+  module _ (n : most ≡ 0 → ⊥) where
+    pub listed-slot : slot < slots
+    listed-slot = split (ltb slot slots) (ltb-true _ _) (λ e. absurd (n (m ∙ entry-past (mostFor k) commandFields slot (ltb-false _ _ e))))
+
+    pub listed-most : most ≡ mostFor k (slotField slot)
+    listed-most = m ∙ entry-at (mostFor k) slot listed-slot
+
+    passes-listed : childPasses k c ≡ fits (slotField slot) (c .value)
     unfolding childPasses
-    child-fits {f} n g = ok-listed c (listed (fieldsOf k) (c .tag)) f (child-field ∙ rw (ne-eqb _ _ n, g))
+    passes-listed = ok-listed c (listed (fieldsOf k) (c .tag)) (slotField slot) (child-field listed-slot ∙ rw (ne-eqb _ _ n))
+
+  -- ---- whether it is taken
+
+  module _ (n : ℕ) where
+    taken-never : most ≡ 0 → childTaken slot most n c ≡ skippable c
+    unfolding childTaken
+    taken-never z = simp (eq-eqb _ _ z)
+
+    taken-listed : (most ≡ 0 → ⊥) → childTaken slot most n c ≡ (ltb n most && fits (slotField slot) (c .value))
+    unfolding childTaken
+    taken-listed z = simp (ne-eqb _ _ z)
+
+    -- one that is taken passes
+    pub taken-passes : childTaken slot most n c ≡ true → childPasses k c ≡ true
+    taken-passes e =
+        split (eqb most 0)
+        (λ z. let y = eqb-true _ _ z in passes-never y ∙ sym (taken-never y) ∙ e)
+        (λ z. let y = eqb-false _ _ z in passes-listed y ∙ and-right (ltb n most) _ (sym (taken-listed y) ∙ e))
+
+    -- and is not too many
+    pub taken-few : childTaken slot most n c ≡ true → (most ≡ 0 → ⊥) → n < most
+    taken-few e z = ltb-true _ _ (and-left (ltb n most) _ (sym (taken-listed z) ∙ e))
+
+    -- so that there is a place for it
+    pub taken-room : childTaken slot most n c ≡ true → (most ≡ 0 → ⊥) → n < room slot
+    taken-room e z = omega (arith, taken-few e z, listed-most z, most-room k slot (listed-slot z))
+
+    -- or its tag has no slot, since every slot's is critical
+    pub taken-past : childTaken slot most n c ≡ true → most ≡ 0 → slots ≤ slot
+    taken-past e z =
+        split (ltb slot slots)
+        (λ h. let l = ltb-true _ _ h in
+        let d : critical (c .tag) ≡ true = rw (← tag-is l) (slot-critical slot l) in
+        clash (sym (taken-never z) ∙ e) (rw d))
+        (λ h. ltb-false _ _ h)
+
+    -- one that is not taken does not pass, or is too many
+    pub not-taken : {G : Type 0} → childTaken slot most n c ≡ false → (childPasses k c ≡ false → G)
+        → ((most ≡ 0 → ⊥) → most ≤ n → G) → G
+    not-taken e f g =
+        split (eqb most 0)
+        (λ z. let y = eqb-true _ _ z in f (passes-never y ∙ sym (taken-never y) ∙ e))
+        (λ z. let y = eqb-false _ _ z in
+        split (ltb n most)
+        (λ l. f (passes-listed y ∙ sym (rw l at (taken-listed y)) ∙ e))
+        (λ l. g y (ltb-false _ _ l)))
+
+-- there is a place for one that is taken and noted
+pub taken-place : (k : model.Kind) (c : Tlv) (n : ℕ) {slot most : ℕ} {b : Bool} → slot ≡ slotOf (c .tag)
+    → most ≡ getD (bySlot (mostFor k)) slot 0 → b ≡ childTaken slot most n c → not b ≡ false → 0 < most → (n < 8) × (slot < slots)
+taken-place k c n {slot} {most} s m told passes h =
+    let z : most ≡ 0 → ⊥ = λ e. omega arith in (
+      omega (arith, taken-room k c s m n (sym told ∙ not-false _ passes) z, room-most slot),
+      listed-slot k c s m z,
+    )

@@ -1,39 +1,33 @@
--- When a command is broken, what its children are when it is not, and where its fields then stand.
+-- When a command is broken, and where the fields of one that is not stand, by what was noted of them.
 -- Assumes nothing.
-use mathlib.Core.Path.{_≡_, refl, sym, _∙_}
-use mathlib.Core.Bool.{Bool, true, false, not, _&&_, and-false}
-use mathlib.Core.List.{List, [], _∷_}
-use mathlib.Core.Option.{Option, none, some, Option·getD}
-use Prim.Native.Nat.{ℕ, _-_, _≤_, _<_}
+use mathlib.Core.Path.{_≡_, sym, ap, _∙_}
+use mathlib.Core.Bool.{Bool, true, false, not, and-false}
+use mathlib.Core.List.{List, [], _∷_, _++_, map}
+use mathlib.Core.Option.{none, some}
+use Prim.Native.Nat.{ℕ, _+_, _-_, _≤_, _<_}
 use native.Mathlib.Omega.{arith}
-use lib.ListN.{length, take, drop, getD, length-drop}
-use lib.Seq.{take-all}
-use lib.Dec.{leb, eqb, lit<}
-use borrow.Author.Tests.{leb-true, leb-false, le-leb, lt-leb, eqb-true}
-use Rattle.model.specs.Lists.{all, given}
-use Rattle.model.specs.Tlv.{Tlv, tlvs, isRun, Field, keyHandle, tagOf, maxCommand, critical, Kind, getInfo, register, sign, deregister, openSettings, fieldsOf, upTo, listed, childOk, valuesOf, timesOk, childrenOk, children, broken, fieldsIn, fieldIn, fills}
-use Rattle.model.proofs.Basics.{split, clash, and-left, and-right}
-use Rattle.model.proofs.Fields.{unbroken, given-times}
+use lib.ListN.{length, take, drop, getD, length-drop, length-map, length-append, List·getD-append}
+use lib.Seq.{take-all, getD-take, getD-append-add, ext-getD, length-take-le}
+use lib.Dec.{leb, lit<}
+use borrow.Author.Tests.{leb-true, leb-false, le-leb, lt-leb, not-true}
+use Rattle.model.specs.Lists.{all}
+use Rattle.model.specs.Tlv.{Tlv, tlv, tlvs, isRun, Field, keyHandle, tagOf, maxCommand, Kind, fieldsOf, valuesOf, timesOk, childrenOk, children, broken, fieldsIn, fieldIn, fills}
+use Rattle.model.proofs.Basics.{split, clash}
+use Rattle.tlv.specs.Heads.{headAt, between, part}
 use Rattle.tlv.specs.Spans.{partsIn, noSpan}
 use Rattle.tlv.specs.declared.heads.Span.{Span}
-use Rattle.tlv.specs.declared.heads.Spans.{Spans}
-use Rattle.tlv.proofs.HeadLaws.{fills-short}
-use Rattle.params.specs.Children.{childPasses, runFrom, maxValues, ValuesAre}
-use Rattle.params.specs.Slots.{slots, slotField, SlotsAre, givenOk}
-use Rattle.params.specs.Parse.{Placed, HandlesPlaced, noParams, ParamsRead}
-use Rattle.params.specs.declared.children.Slots.{Slots}
-use Rattle.params.specs.declared.children.Values.{Values}
+use Rattle.tlv.specs.declared.heads.Head.the-variants.{Bad, End}
+use Rattle.tlv.proofs.HeadLaws.{IsTlv, fills-short}
+use Rattle.params.specs.Slots.{slots, slotField, slotOf, leastFor, mostFor, bySlot, enough}
+use Rattle.params.specs.Children.{childPasses, childTaken}
+use Rattle.params.specs.Parse.{Placed, HandlesPlaced, noParams, picked, paramsAt, ParamsRead}
 use Rattle.params.specs.declared.parse.Params.{Params}
-use Rattle.params.proofs.TimesLaws.{times-all}
+use Rattle.params.proofs.KindLaws.{map-at, slot-tag, room, most-room, listed-slot, listed-most, not-taken}
+use Rattle.params.proofs.TimesLaws.{enough-is, too-many}
+use Rattle.params.proofs.ChildLaws.{Follows, walked-end, walked-bad, walked-fails, all-fails, values-own, values-stay}
+use Rattle.params.proofs.SlotLaws.{Noted}
 
 -- ---- when a command is broken
-
--- each child passes, and each field is given as often as it must and may be
-run-ok : (k : Kind) (o : Option (List Tlv))
-    → isRun (childrenOk (fieldsOf k)) o ≡ (isRun (all (childPasses k)) o && all (timesOk (Option·getD o [])) (fieldsOf k))
-unfolding childrenOk childPasses
-run-ok k none = refl
-run-ok k (some ts) = refl
 
 children-whole : (s : List ℕ) → fills s ≡ true → children s ≡ tlvs (drop 4 s)
 unfolding children
@@ -43,13 +37,15 @@ children-cut : (s : List ℕ) → fills s ≡ false → children s ≡ none
 unfolding children
 children-cut s e = rw e
 
-run-given : (p : List Tlv → Bool) (o : Option (List Tlv)) → isRun p o ≡ true → given o ≡ true
-run-given p none e = e
-run-given p (some ts) e = refl
-
 -- all bytes past the header are a part
 pub rest-part : (s : List ℕ) → take (length s - 4) (drop 4 s) ≡ drop 4 s
 rest-part s = take-all (length s - 4) (drop 4 s) (simp length-drop (omega arith))
+
+pub whole-place : (s : List ℕ) → fills s ≡ true → 4 ≤ length s
+whole-place s e = split (leb 4 (length s)) (leb-true _ _) (λ f. clash e (fills-short s (leb-false _ _ f)))
+
+pub whole-follows : (s run : List ℕ) → fills s ≡ true → run ≡ drop 4 s → Follows s run
+whole-follows s run e d = record { header = whole-place s e; run-is = d }
 
 module _ (k : Kind) (s : List ℕ) where
   pub broken-long : maxCommand < length s → broken k s ≡ true
@@ -60,149 +56,133 @@ module _ (k : Kind) (s : List ℕ) where
   unfolding broken
   broken-cut e = rw (children-cut s e, and-false)
 
-  pub broken-child : fills s ≡ true → isRun (all (childPasses k)) (tlvs (drop 4 s)) ≡ false → broken k s ≡ true
+  broken-run : fills s ≡ true → isRun (childrenOk (fieldsOf k)) (tlvs (drop 4 s)) ≡ false → broken k s ≡ true
   unfolding broken
-  broken-child e f = rw (children-whole s e, run-ok k (tlvs (drop 4 s)), f, and-false)
+  broken-run e f = rw (children-whole s e, f, and-false)
 
-  pub broken-times : {r : Slots} → length s ≤ maxCommand → fills s ≡ true → isRun (all (childPasses k)) (tlvs (drop 4 s)) ≡ true
-      → SlotsAre s 4 r → broken k s ≡ not (givenOk k (r .times))
-  unfolding broken
-  broken-times {r} h e f a =
-      let times : givenOk k (r .times) ≡ all (timesOk (runFrom s 4)) (fieldsOf k) =
-      times-all k (runFrom s 4) (r .times) (λ slot h. a .each slot h .times-are) in
-      rw (le-leb _ _ h, children-whole s e, run-ok k (tlvs (drop 4 s)), f, times)
-
-  -- where all children pass there is a run
-  pub passed-run : isRun (all (childPasses k)) (tlvs (drop 4 s)) ≡ true → given (tlvs (drop 4 s)) ≡ true
-  passed-run e = run-given (all (childPasses k)) (tlvs (drop 4 s)) e
-
-pub whole-place : (s : List ℕ) → fills s ≡ true → 4 ≤ length s
-whole-place s e = split (leb 4 (length s)) (leb-true _ _) (λ f. clash e (fills-short s (leb-false _ _ f)))
-
--- ---- the children of a command that is not broken
-
-pub unbroken-given : (k : Kind) (s : List ℕ) → broken k s ≡ false → given (children s) ≡ true
-unbroken-given k s e = rw (unbroken k s e .read)
-
-module _ (s : List ℕ) (g : given (children s) ≡ true) where
-  given-whole : fills s ≡ true
-  given-whole = split (fills s) (λ e. e) (λ e. clash g (rw (children-cut s e)))
-
-  -- they follow the header
-  pub given-place : 4 ≤ length s
-  given-place = whole-place s given-whole
-
-  pub given-run : given (tlvs (drop 4 s)) ≡ true
-  given-run = rw (children-whole s given-whole) at g
-
-  fields-in : (f : Field) → fieldsIn f s ≡ valuesOf f (runFrom s 4)
-  unfolding fieldsIn
-  fields-in f = rw (children-whole s given-whole)
-
--- a critical field that a command does not list is not given
-none-given : (k : Kind) (f : Field) → listed (fieldsOf k) (tagOf f) ≡ none → critical (tagOf f) ≡ true → (ts : List Tlv)
-    → all (λ c. childOk c (listed (fieldsOf k) (c .tag))) ts ≡ true → valuesOf f ts ≡ []
-none-given k f u c [] e = refl
-none-given k f u c (t ∷ ts) e =
-    let ok : Bool = childOk t (listed (fieldsOf k) (t .tag)) in
-    let ih : valuesOf f ts ≡ [] = none-given k f u c ts (and-right ok _ e) in
-    split (eqb (t .tag) (tagOf f))
-    (λ h. clash (and-left ok _ e) (rw (eqb-true (t .tag) (tagOf f) h, u, c)))
-    (λ h. rw h ih)
-
-module _ (s : List ℕ) where
-  no-handles : (k : Kind) → listed (fieldsOf k) (tagOf keyHandle) ≡ none → broken k s ≡ false → length (fieldsIn keyHandle s) ≤ maxValues
-  unfolding fieldsIn
-  no-handles k u b =
-      let v = unbroken k s b in
-      rw (v .read, none-given k keyHandle u refl (v .held) (v .child)) (omega arith)
-
-  -- at most eight key handles, whichever command it is
-  pub few-handles : (k : Kind) → broken k s ≡ false → length (fieldsIn keyHandle s) ≤ maxValues
-  unfolding fieldsIn
-  few-handles getInfo b = no-handles getInfo refl b
-  few-handles register b = no-handles register refl b
-  few-handles sign b =
-      let n : ℕ = length (fieldsIn keyHandle s) in
-      leb-true n maxValues (and-right (leb 0 n) _ (given-times sign s keyHandle b (upTo maxValues keyHandle) refl))
-  few-handles deregister b = no-handles deregister refl b
-  few-handles openSettings b = no-handles openSettings refl b
-
--- ---- where its fields stand
-
-empty-list : {A : Type 0} (l : List A) → length l ≡ 0 → l ≡ []
-empty-list [] e = refl
-empty-list (x ∷ l) e = absurd (omega arith)
-
--- the first value of a slot's field
-placed-at : (s : List ℕ) (r : Slots) → given (children s) ≡ true → SlotsAre s 4 r → (slot : ℕ) → slot < slots
-    → Placed s (slotField slot) (getD (r .first) slot noSpan)
-unfolding fieldIn
-placed-at s r g a slot h =
-    let i = a .each slot h in
-    record { inside = i .inside; value = rw (fields-in s g (slotField slot)) (i .value) }
-
--- where there are none
-pub none-placed : (s : List ℕ) {at : List Span} → length (fieldsIn keyHandle s) ≡ 0 → HandlesPlaced s (record { at = at; len = 0 })
-unfolding partsIn
-none-placed s e =
-    record {
-      inside = record { few = omega arith; each = λ i h. absurd (omega arith) };
-      values = sym (empty-list (fieldsIn keyHandle s) e);
-    }
-
--- how many there are
-pub count-handles : (s : List ℕ) (r : Slots) → given (children s) ≡ true → SlotsAre s 4 r → getD (r .times) 9 0 ≡ length (fieldsIn keyHandle s)
-count-handles s r g a = rw (fields-in s g keyHandle) (a .each 9 (lit< tt) .times-are)
-
--- all key handles
-pub handles-placed : (s : List ℕ) (v : Values) → given (children s) ≡ true → length (fieldsIn keyHandle s) ≤ maxValues
-    → ValuesAre s 4 keyHandle v → HandlesPlaced s (record { at = v .at; len = v .times })
-unfolding partsIn
-handles-placed s v g h a =
-    let are : fieldsIn keyHandle s ≡ valuesOf keyHandle (runFrom s 4) = fields-in s g keyHandle in
-    let few : length (valuesOf keyHandle (runFrom s 4)) ≤ maxValues = rw are at h in
-    record {
-      inside = record { few = omega (arith, a .times-are); each = λ i h. a .inside i h (omega (arith, a .times-are)) };
-      values = a .values-are ∙ take-all maxValues _ few ∙ sym are;
-    }
-
--- ---- the whole answer
+-- all children passed, so that the numbers decide
+broken-times : (k : Kind) (s : List ℕ) (held : List Tlv) → length s ≤ maxCommand → children s ≡ some held
+    → all (childPasses k) held ≡ true → broken k s ≡ not (all (timesOk held) (fieldsOf k))
+unfolding broken childrenOk childPasses
+broken-times k s held h e f = rw (le-leb _ _ h, e, f)
 
 pub read-broken : {k : Kind} {s : List ℕ} {r : Params} → broken k s ≡ true → r ≡ noParams → ParamsRead k s r
 read-broken b e = record { broken-is = rw e (sym b); if-broken = λ h. e; unless-broken = λ h. clash b h }
 
--- the fields that the code picks
-abbrev pub picked : Slots → Spans → Params
-picked r handles =
-    let at : ℕ → Span = λ slot. getD (r .first) slot noSpan in
-    record {
-      broken = false;
-      «app_id» = at 1;
-      «challenge_hash» = at 2;
-      username = at 3;
-      «attestation_type» = at 4;
-      «access_token» = at 7;
-      «key_id» = at 6;
-      «transaction_content» = at 5;
-      handles = handles;
-    }
+-- ---- a turn at what is no child, or at one that is not taken
 
-pub read-picked : {k : Kind} {s : List ℕ} {r : Slots} {ps : Spans} → broken k s ≡ false → SlotsAre s 4 r → HandlesPlaced s ps
-    → ParamsRead k s (picked r ps)
-read-picked {k} {s} {r} b a h =
-    let at = placed-at s r (unbroken-given k s b) a in
-    record {
-      broken-is = sym b;
-      if-broken = λ e. clash e b;
-      unless-broken = λ e. record {
-        app-id = at 1 (lit< tt);
-        challenge-hash = at 2 (lit< tt);
-        username = at 3 (lit< tt);
-        attestation-type = at 4 (lit< tt);
-        access-token = at 7 (lit< tt);
-        key-id = at 6 (lit< tt);
-        transaction-content = at 5 (lit< tt);
-        handles = h;
-      };
-    }
+module _ {k : Kind} {s times : List ℕ} {first handles : List Span} {at : ℕ} (so-far : Noted k s times first handles at) (whole : fills s ≡ true) where
+  pub broken-bad : headAt s at ≡ Bad → broken k s ≡ true
+  broken-bad e = broken-run k s whole (rw (walked-bad (so-far .walked) e))
+
+  module _ {tag start end : ℕ} (i : IsTlv s at tag start end) where
+    abbrev child : Tlv
+    child = tlv tag (between s start end)
+
+    abbrev now-held : List Tlv
+    now-held = so-far .held ++ (child ∷ [])
+
+    broken-child : childPasses k child ≡ false → broken k s ≡ true
+    unfolding childrenOk childPasses
+    broken-child e =
+        broken-run k s whole (walked-fails (so-far .walked) i (childrenOk (fieldsOf k))
+        (λ ts. rw (all-fails (childPasses k) child (so-far .held) ts e)))
+
+    broken-many : (slot : ℕ) → slot < slots → tag ≡ tagOf (slotField slot) → (mostFor k (slotField slot) ≡ 0 → ⊥)
+        → mostFor k (slotField slot) ≤ getD times slot 0 → broken k s ≡ true
+    unfolding childrenOk
+    broken-many slot h own z l =
+        let f : Field = slotField slot in
+        let grown : length (valuesOf f now-held) ≡ length (valuesOf f (so-far .held)) + 1 =
+        rw (values-own f (so-far .held) tag (between s start end) own) (simp length-append) in
+        broken-run k s whole (walked-fails (so-far .walked) i (childrenOk (fieldsOf k))
+        (λ ts. let more : mostFor k f < length (valuesOf f (now-held ++ ts)) =
+        omega (arith, values-stay f now-held ts, grown, so-far .each slot h .count, l) in
+        rw (too-many k (now-held ++ ts) slot h z more, and-false)))
+
+    pub broken-refused : {slot most : ℕ} {b : Bool} {v : List ℕ} → slot ≡ slotOf tag → most ≡ getD (bySlot (mostFor k)) slot 0
+        → v ≡ between s start end → b ≡ childTaken slot most (getD times slot 0) (tlv tag v) → not b ≡ true → broken k s ≡ true
+    broken-refused {slot} {most} s-is m-is v-is told refused =
+        let e : childTaken slot most (getD times slot 0) child ≡ false =
+        ap (λ (x : List ℕ). childTaken slot most (getD times slot 0) (tlv tag x)) (sym v-is) ∙ sym told ∙ not-true _ refused in
+        not-taken k child s-is m-is (getD times slot 0) e broken-child
+        (λ z l. let h : slot < slots = listed-slot k child s-is m-is z in
+        let m : most ≡ mostFor k (slotField slot) = listed-most k child s-is m-is z in
+        broken-many slot h (sym (rw s-is (slot-tag tag (rw s-is at h)))) (rw m at z) (rw m at l))
+
+-- ---- where all children were taken
+
+module _ {k : Kind} {s times : List ℕ} {first handles : List Span} {at : ℕ} (all-noted : Noted k s times first handles at) (e : headAt s at ≡ End)
+    (short : length s ≤ maxCommand) (whole : fills s ≡ true) where
+  abbrev held : List Tlv
+  held = all-noted .held
+
+  held-is : children s ≡ some held
+  held-is = children-whole s whole ∙ walked-end (all-noted .walked) e
+
+  values-in : (f : Field) → fieldsIn f s ≡ valuesOf f held
+  unfolding fieldsIn
+  values-in f = rw held-is
+
+  broken-is : broken k s ≡ not (enough (bySlot (leastFor k)) times)
+  broken-is =
+      let same : enough (bySlot (leastFor k)) times ≡ all (timesOk held) (fieldsOf k) =
+      enough-is k held times (all-noted .counts) (λ j h. all-noted .each j h .count)
+      (λ j h. omega (arith, all-noted .each j h .count, all-noted .each j h .few)) in
+      rw same (broken-times k s held short held-is (all-noted .passed))
+
+  -- the first value of a slot's field
+  placed-at : (slot : ℕ) → slot < 9 → 0 < room slot → Placed s (slotField slot) (getD first slot noSpan)
+  unfolding fieldIn
+  placed-at slot h l =
+      let i = all-noted .each slot (omega arith) in
+      let z : getD (first ++ handles) (slot + 0) noSpan ≡ getD first slot noSpan =
+      ap (λ (x : ℕ). getD (first ++ handles) x noSpan) (omega arith)
+      ∙ List·getD-append first handles noSpan slot (omega (arith, all-noted .nine)) in
+      record { inside = rw z at (i .inside 0 l); value = rw (values-in (slotField slot)) (rw z at (i .value 0 l)) }
+
+  -- all key handles
+  handles-placed : HandlesPlaced s (record { at = handles; len = getD times 9 0 })
+  unfolding partsIn
+  handles-placed =
+      let n : ℕ = getD times 9 0 in
+      let i = all-noted .each 9 (lit< tt) in
+      let few : n ≤ 8 = omega (arith, i .few, most-room k 9 (lit< tt)) in
+      let vs : List (List ℕ) = valuesOf keyHandle held in
+      let size : length (take n handles) ≡ n = length-take-le n handles (omega (arith, few, all-noted .eight)) in
+      let there : (j : ℕ) → getD (first ++ handles) (9 + j) noSpan ≡ getD handles j noSpan =
+      λ j. rw (all-noted .nine) at (getD-append-add first handles j noSpan) in
+      record {
+        inside = record { few = few; each = λ j h. rw (there j) at (i .inside j (omega arith)) };
+        values = rw (values-in keyHandle)
+            (ext-getD [] (map (part s) (take n handles)) vs (length-map (take n handles) (part s) ∙ size ∙ i .count)
+            (λ j h. let l : j < n = omega (arith, size, simp length-map at h) in
+            sym (map-at (part s) (take n handles) j noSpan [] (omega (arith, size)))
+            ∙ ap (part s) (getD-take n handles j noSpan l ∙ sym (there j))
+            ∙ i .value j (omega arith)));
+      }
+
+  read-picked : broken k s ≡ false → ParamsRead k s (picked first handles (getD times 9 0))
+  read-picked b =
+      record {
+        broken-is = sym b;
+        if-broken = λ h. clash h b;
+        unless-broken = λ h. record {
+          app-id = placed-at 1 (lit< tt) (lit< tt);
+          challenge-hash = placed-at 2 (lit< tt) (lit< tt);
+          username = placed-at 3 (lit< tt) (lit< tt);
+          attestation-type = placed-at 4 (lit< tt) (lit< tt);
+          access-token = placed-at 7 (lit< tt) (lit< tt);
+          key-id = placed-at 6 (lit< tt) (lit< tt);
+          transaction-content = placed-at 5 (lit< tt) (lit< tt);
+          handles = handles-placed;
+        };
+      }
+
+  -- the whole answer
+  pub read-all : {least : List ℕ} → least ≡ bySlot (leastFor k) → {r : Params} → r ≡ paramsAt least times first handles → ParamsRead k s r
+  unfolding paramsAt
+  read-all l p =
+      split (enough (bySlot (leastFor k)) times)
+      (λ h. rw (p, l, h) (read-picked (broken-is ∙ rw h)))
+      (λ h. read-broken (broken-is ∙ rw h) (p ∙ rw (l, h)))

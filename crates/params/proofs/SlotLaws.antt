@@ -1,209 +1,226 @@
--- The fields of a command gathered slot by slot, child by child: how often each is given, and where its first value stands.
+-- The values of a command's fields noted child by child: how often each slot was given, and where each of its values stands.
 -- Assumes nothing.
 use mathlib.Core.Path.{_≡_, refl, sym, ap, _∙_}
-use mathlib.Core.Bool.{Bool, true, _&&_}
-use mathlib.Core.List.{List, [], _∷_, _++_, append-assoc, append-nil}
+use mathlib.Core.Bool.{Bool, true, false, not}
+use mathlib.Core.List.{List, [], _∷_, _++_}
 use Prim.Native.Nat.{ℕ, zero, suc, _+_, _≤_, _<_}
-use native.Mathlib.Nat.{pos-of-ne-zero}
 use native.Mathlib.Omega.{arith}
-use lib.ListN.{length, getD, set, replicate, length-set, length-append, getD-replicate}
-use lib.Seq.{getD-set-same, getD-set-other}
-use lib.Dec.{eqb}
-use borrow.Author.Tests.{eqb-true, eqb-false}
-use Rattle.model.specs.Tlv.{tagOf}
-use Rattle.model.proofs.Basics.{split, and-left, and-right}
-use Rattle.tlv.specs.Heads.{headAt, between, part}
+use lib.ListN.{length, getD, set, replicate, length-set, length-append, getD-replicate, List·getD-append, List·getD-eq-default}
+use lib.Seq.{getD-set-same, getD-set-other, getD-at, set-append-left}
+use lib.Dec.{eqb, ltb}
+use borrow.Author.Tests.{eqb-true, eqb-false, ne-eqb, ltb-true, ltb-false, not-false}
+use Rattle.model.specs.Lists.{all}
+use Rattle.model.specs.Tlv.{Tlv, tlv, Kind, tagOf, valuesOf}
+use Rattle.model.proofs.Basics.{split, both, all-append}
+use Rattle.tlv.specs.Heads.{between, part}
 use Rattle.tlv.specs.Spans.{span, Inside, noSpan}
 use Rattle.tlv.specs.declared.heads.Span.{Span}
-use Rattle.tlv.specs.declared.heads.Head.the-variants.{End}
 use Rattle.tlv.proofs.HeadLaws.{IsTlv}
-use Rattle.params.specs.Children.{runFrom}
-use Rattle.params.specs.Slots.{slots, slotField, slotOf, SlotIs, SlotsAre}
-use Rattle.params.proofs.KindLaws.{slot-tag}
-use Rattle.params.proofs.ChildLaws.{RunAt, valuesWith, run-empty, run-next, values-same, values-other}
-
--- ---- the slots
-
--- a test of each number below a bound
-abbrev allBelow : ℕ → (ℕ → Bool) → Bool
-allBelow zero p = true
-allBelow (suc n) p = p n && allBelow n p
-
-below : (n : ℕ) (p : ℕ → Bool) → allBelow n p ≡ true → (j : ℕ) → j < n → p j ≡ true
-below zero p e j h = absurd (omega arith)
-below (suc n) p e j h =
-    split (eqb j n) (λ d. rw (eqb-true j n d) (and-left _ _ e))
-    (λ d. let k = eqb-false j n d in below n p (and-right (p n) _ e) j (omega arith))
-
--- no two slots have one tag
-pub slot-own : (j : ℕ) → j < slots → slotOf (tagOf (slotField j)) ≡ j
-unfolding slotOf
-slot-own j h = eqb-true _ _ (below slots (λ i. eqb (slotOf (tagOf (slotField i))) i) refl j h)
+use Rattle.params.specs.Slots.{slots, slotField, slotOf, mostFor, bySlot}
+use Rattle.params.specs.Children.{childPasses, childTaken}
+use Rattle.params.proofs.KindLaws.{slot-tag, slot-own, room, listed-slot, listed-most, taken-passes, taken-few, taken-room, taken-past}
+use Rattle.params.proofs.ChildLaws.{Follows, Walked, walked-none, walked-more, values-own, values-other}
 
 -- ---- one slot
 
--- up to a place, a tag was met so many times; the first of its values, if any, is found
-pub record Met (s : List ℕ) (from wanted : ℕ) (first : Span) (times at : ℕ) : Type 0 where
-  pub seen : List (List ℕ)
-  pub values : seen ++ valuesWith wanted (runFrom s at) ≡ valuesWith wanted (runFrom s from)
-  pub counted : length seen ≡ times
-  pub few : times ≤ at
-  pub inside : Inside s first
-  pub value : part s first ≡ getD seen 0 []
+-- a slot was given so many times, no more than a command allows, and its values stand at the places from its own on; where there are fewer, the
+-- places left are empty parts
+pub record Slotted (k : Kind) (s : List ℕ) (j : ℕ) (vs : List (List ℕ)) (n : ℕ) (places : List Span) : Type 0 where
+  pub count : n ≡ length vs
+  pub few : n ≤ mostFor k (slotField j)
+  pub inside : (i : ℕ) → i < room j → Inside s (getD places (j + i) noSpan)
+  pub value : (i : ℕ) → i < room j → part s (getD places (j + i) noSpan) ≡ getD vs i []
 
--- the first of a list with one more at its end
-first-new : (xs : List (List ℕ)) (x : List ℕ) → length xs ≡ 0 → x ≡ getD (xs ++ (x ∷ [])) 0 []
-first-new [] x e = refl
-first-new (y ∷ xs) x e = absurd (omega arith)
+-- a list with one more at its end
+getD-more : (vs : List (List ℕ)) (v : List ℕ) (i : ℕ) → (i ≡ length vs → ⊥) → getD vs i [] ≡ getD (vs ++ (v ∷ [])) i []
+getD-more vs v i h =
+    split (ltb i (length vs))
+    (λ e. sym (List·getD-append vs (v ∷ []) [] i (ltb-true _ _ e)))
+    (λ e. let l : length vs ≤ i = ltb-false _ _ e in
+    List·getD-eq-default vs [] l ∙ sym (List·getD-eq-default (vs ++ (v ∷ [])) [] (simp length-append (omega arith))))
 
-first-old : (xs ys : List (List ℕ)) → 0 < length xs → getD xs 0 [] ≡ getD (xs ++ ys) 0 []
-first-old [] ys h = absurd (omega arith)
-first-old (x ∷ xs) ys h = refl
+-- no two values share a place
+apart : (j i slot n : ℕ) → j < slots → slot < slots → i < room j → n < room slot → (j ≡ slot → ⊥) → j + i ≡ slot + n → ⊥
+apart j i slot n hj hs hi hn d e =
+    split (eqb j 9)
+    (λ a. split (eqb slot 9)
+    (λ b. d (eqb-true j 9 a ∙ sym (eqb-true slot 9 b)))
+    (λ b. let x = eqb-true j 9 a in let y = eqb-false slot 9 b in omega (arith, rw b at hn)))
+    (λ a. split (eqb slot 9)
+    (λ b. let x = eqb-false j 9 a in let y = eqb-true slot 9 b in omega (arith, rw a at hi))
+    (λ b. d (omega (arith, rw a at hi, rw b at hn))))
 
-met-none : (s : List ℕ) (from wanted : ℕ) → Met s from wanted noSpan 0 from
-met-none s from wanted =
-    record {
-      seen = [];
-      values = refl;
-      counted = refl;
-      few = omega arith;
-      inside = record { ordered = omega arith; within = omega arith };
-      value = refl;
-    }
-
--- a turn at a child
-module _ {s : List ℕ} {from wanted : ℕ} {first : Span} {times at tag start end : ℕ} (i : IsTlv s at tag start end) (g : RunAt s at)
-    (so-far : Met s from wanted first times at) where
-  -- with the tag, where the first of the values stands at a part
-  met-more : tag ≡ wanted → (p : Span) → Inside s p → part s p ≡ getD (so-far .seen ++ (between s start end ∷ [])) 0 []
-      → Met s from wanted p (times + 1) end
-  met-more e p k v =
-      let one : List (List ℕ) = between s start end ∷ [] in
-      record {
-        seen = so-far .seen ++ one;
-        values =
-            append-assoc (so-far .seen) one (valuesWith wanted (runFrom s end))
-            ∙ ap (λ (l : List (List ℕ)). so-far .seen ++ l) (sym (values-same i g wanted e))
-            ∙ so-far .values;
-        counted = simp length-append (omega (arith, so-far .counted));
-        few = omega (arith, i);
-        inside = k;
-        value = v;
-      }
-
-  -- with the tag, for the first time
-  met-first : tag ≡ wanted → times ≡ 0 → Met s from wanted (span start end) (times + 1) end
-  met-first e z =
-      met-more e (span start end) (record { ordered = i .ordered; within = i .within }) (first-new (so-far .seen) _ (so-far .counted ∙ z))
-
-  -- with the tag, again
-  met-again : tag ≡ wanted → (times ≡ 0 → ⊥) → Met s from wanted first (times + 1) end
-  met-again e h =
-      let some-seen : 0 < length (so-far .seen) = pos-of-ne-zero (λ z. h (sym (so-far .counted) ∙ z)) in
-      met-more e first (so-far .inside) (so-far .value ∙ first-old (so-far .seen) _ some-seen)
-
-  -- with another tag
-  met-other : (tag ≡ wanted → ⊥) → Met s from wanted first times end
-  met-other h =
-      record {
-        seen = so-far .seen;
-        values = rw (← values-other i g wanted h) (so-far .values);
-        counted = so-far .counted;
-        few = omega (arith, i);
-        inside = so-far .inside;
-        value = so-far .value;
-      }
-
--- where the run ends, all are met
-met-end : {s : List ℕ} {from wanted : ℕ} {first : Span} {times at : ℕ} → Met s from wanted first times at → headAt s at ≡ End
-    → SlotIs s (valuesWith wanted (runFrom s from)) times first
-met-end {s} {from} {wanted} {first} {times} {at} m h =
-    let none-left : valuesWith wanted (runFrom s at) ≡ [] = rw (run-empty s at h) in
-    let all : m .seen ≡ valuesWith wanted (runFrom s from) = sym (append-nil (m .seen)) ∙ rw none-left at (m .values) in
-    record {
-      times-are = sym (m .counted) ∙ ap length all;
-      inside = m .inside;
-      value = m .value ∙ ap (λ (l : List (List ℕ)). getD l 0 []) all;
-    }
+room-ends : (slot n : ℕ) → slot < slots → n < room slot → slot + n < 17
+room-ends slot n h k =
+    split (eqb slot 9) (λ e. omega (arith, rw e at k)) (λ e. omega (arith, rw e at k))
 
 -- ---- all slots
 
--- up to a place, each slot's tag was met as often as its place of one array says, and its first value stands where the other says
-pub record Slotted (s : List ℕ) (from : ℕ) (first : List Span) (times : List ℕ) (at : ℕ) : Type 0 where
-  pub place : at ≤ length s
-  pub run : RunAt s at
-  pub firsts : length first ≡ slots
-  pub counts : length times ≡ slots
-  pub each : (j : ℕ) → j < slots → Met s from (tagOf (slotField j)) (getD first j noSpan) (getD times j 0) at
+-- up to a place all children pass, and each slot is noted: the key handles, whose slot is the last, in an array of their own
+pub record Noted (k : Kind) (s times : List ℕ) (first handles : List Span) (at : ℕ) : Type 0 where
+  pub held : List Tlv
+  pub walked : Walked s at held
+  pub passed : all (childPasses k) held ≡ true
+  pub counts : length times ≡ suc slots
+  pub nine : length first ≡ 9
+  pub eight : length handles ≡ 8
+  pub each : (j : ℕ) → j < slots → Slotted k s j (valuesOf (slotField j) held) (getD times j 0) (first ++ handles)
 
--- arrays of empty parts and of zeros, before the first child
-none-met : (s : List ℕ) (from wanted n j : ℕ) → j < n
-    → Met s from wanted (getD (replicate n noSpan) j noSpan) (getD (replicate n 0) j 0) from
-none-met s from wanted n j h = rw (getD-replicate n j noSpan noSpan h, getD-replicate {A = ℕ} n j 0 0 h) (met-none s from wanted)
+-- whichever the command is, if these are its numbers and it has this child run, in which a place is reached
+abbrev pub NotedBy : (most run times : List ℕ) (first handles : List Span) → ℕ → Type 0
+NotedBy most run times first handles at =
+    (k : Kind) (s : List ℕ) → most ≡ bySlot (mostFor k) → Follows s run → Noted k s times first handles (4 + at)
 
-pub slotted-none : (s : List ℕ) (from : ℕ) → from ≤ length s → RunAt s from
-    → Slotted s from (replicate slots noSpan) (replicate slots 0) from
-slotted-none s from h g =
-    record { place = h; run = g; firsts = refl; counts = refl; each = λ j k. none-met s from (tagOf (slotField j)) slots j k }
+pub noted-none : (most run : List ℕ) → NotedBy most run (replicate (suc slots) 0) (replicate 9 noSpan) (replicate 8 noSpan) 0
+noted-none most run k s m f =
+    record {
+      held = [];
+      walked = walked-none s;
+      passed = refl;
+      counts = refl;
+      nine = refl;
+      eight = refl;
+      each = λ j h. record {
+        count = getD-replicate {A = ℕ} (suc slots) j 0 0 (omega arith);
+        few = rw (getD-replicate {A = ℕ} (suc slots) j 0 0 (omega arith)) (omega arith);
+        inside = λ i l. rw (getD-replicate 17 (j + i) noSpan noSpan (room-ends j i h l)) (record { ordered = omega arith; within = omega arith });
+        value = λ i l. rw (getD-replicate 17 (j + i) noSpan noSpan (room-ends j i h l));
+      };
+    }
 
--- where the run ends, the slots are as they should be
-pub slotted-end : {s : List ℕ} {from : ℕ} {first : List Span} {times : List ℕ} {at : ℕ} → Slotted s from first times at
-    → headAt s at ≡ End → SlotsAre s from (record { times = times; first = first })
-slotted-end g h = record { each = λ j k. met-end (g .each j k) h }
+-- an element of the second of two lists that is set
+set-right : {A : Type 0} (xs ys : List A) (n i : ℕ) (a : A) → n ≡ length xs + i → set (xs ++ ys) n a ≡ xs ++ set ys i a
+set-right [] ys n i a e = let d : n ≡ i = omega arith in rw d
+set-right (x ∷ xs) ys zero i a e = absurd (omega arith)
+set-right {A} (x ∷ xs) ys (suc n) i a e = ap (λ (l : List A). x ∷ l) (set-right xs ys n i a (omega arith))
 
--- a turn at a child
-module _ {s : List ℕ} {from : ℕ} {first : List Span} {times : List ℕ} {at tag start end : ℕ} (i : IsTlv s at tag start end)
-    (so-far : Slotted s from first times at) where
+-- a turn at a child that is taken
+module _ {k : Kind} {s times : List ℕ} {first handles : List Span} {at tag start end : ℕ} (i : IsTlv s at tag start end)
+    (so-far : Noted k s times first handles at) {slot most : ℕ} {b : Bool} {v : List ℕ} (s-is : slot ≡ slotOf tag)
+    (m-is : most ≡ getD (bySlot (mostFor k)) slot 0) (v-is : v ≡ between s start end)
+    (told : b ≡ childTaken slot most (getD times slot 0) (tlv tag v)) (passes : not b ≡ false) where
+  abbrev child : Tlv
+  child = tlv tag (between s start end)
+
+  taken : childTaken slot most (getD times slot 0) child ≡ true
+  taken = ap (λ (x : List ℕ). childTaken slot most (getD times slot 0) (tlv tag x)) (sym v-is) ∙ sym told ∙ not-false _ passes
+
+  abbrev now-held : List Tlv
+  now-held = so-far .held ++ (child ∷ [])
+
+  all-passed : all (childPasses k) now-held ≡ true
+  all-passed =
+      all-append (childPasses k) (so-far .held) (child ∷ []) (so-far .passed)
+      (both (taken-passes k child s-is m-is (getD times slot 0) taken) refl)
+
   -- the slots of other tags stay as they are
-  others : (j : ℕ) → j < slots → (j ≡ slotOf tag → ⊥) → Met s from (tagOf (slotField j)) (getD first j noSpan) (getD times j 0) end
-  others j k d =
-      met-other i (so-far .run) (so-far .each j k) (λ e. d (sym (slot-own j k) ∙ ap slotOf (sym e)))
+  stays : (j : ℕ) → j < slots → (j ≡ slot → ⊥) → valuesOf (slotField j) now-held ≡ valuesOf (slotField j) (so-far .held)
+  stays j h d = values-other (slotField j) (so-far .held) tag _ (λ e. d (sym (slot-own j h) ∙ ap slotOf (sym e) ∙ sym s-is))
 
-  -- no slot is the tag's
-  pub slotted-other : slots ≤ slotOf tag → Slotted s from first times end
-  slotted-other h =
+  -- and is skipped
+  pub noted-skip : most ≡ 0 → Noted k s times first handles end
+  noted-skip z =
+      let past : slots ≤ slot = taken-past k child s-is m-is (getD times slot 0) taken z in
       record {
-        place = i .within;
-        run = run-next i (so-far .run);
-        firsts = so-far .firsts;
+        held = now-held;
+        walked = walked-more (so-far .walked) i;
+        passed = all-passed;
         counts = so-far .counts;
-        each = λ j k. others j k (λ e. omega arith);
+        nine = so-far .nine;
+        eight = so-far .eight;
+        each = λ j h. rw (stays j h (λ e. omega arith)) (so-far .each j h);
       }
 
-  -- the slot is the tag's
-  module _ (slot : ℕ) (slot-is : slot ≡ slotOf tag) (h : slot < slots) where
-    -- the array with one child more in the slot
-    abbrev pub timesMore : List ℕ
-    timesMore = set times slot (getD times slot 0 + 1)
+  -- and is noted
+  module _ (z : most ≡ 0 → ⊥) where
+    slot-in : slot < slots
+    slot-in = listed-slot k child s-is m-is z
+
+    below-most : getD times slot 0 < mostFor k (slotField slot)
+    below-most = rw (listed-most k child s-is m-is z) at (taken-few k child s-is m-is (getD times slot 0) taken z)
+
+    below-room : getD times slot 0 < room slot
+    below-room = taken-room k child s-is m-is (getD times slot 0) taken z
+
+    ends : slot + getD times slot 0 < 17
+    ends = room-ends slot (getD times slot 0) slot-in below-room
+
+    abbrev times′ : List ℕ
+    times′ = set times slot (getD times slot 0 + 1)
+
+    abbrev places : List Span
+    places = first ++ handles
+
+    abbrev places′ : List Span
+    places′ = set places (slot + getD times slot 0) (span start end)
 
     own : tag ≡ tagOf (slotField slot)
-    own = sym (rw slot-is (slot-tag tag (rw slot-is at h)))
+    own = sym (rw s-is (slot-tag tag (rw s-is at slot-in)))
 
-    -- whichever the array of parts, if it differs in the slot alone and the slot's part is right
-    one-more : (first′ : List Span) → length first′ ≡ slots
-        → ((j : ℕ) → (j ≡ slot → ⊥) → getD first′ j noSpan ≡ getD first j noSpan)
-        → Met s from (tagOf (slotField slot)) (getD first′ slot noSpan) (getD times slot 0 + 1) end → Slotted s from first′ timesMore end
-    one-more first′ e same m =
-        let room : slot < length times = omega (arith, so-far .counts) in
+    -- the slot
+    slot-more : Slotted k s slot (valuesOf (slotField slot) now-held) (getD times′ slot 0) places′
+    slot-more =
+        let n : ℕ = getD times slot 0 in
+        let was = so-far .each slot slot-in in
+        let vs : List (List ℕ) = valuesOf (slotField slot) (so-far .held) in
+        let there : slot + n < length places = simp length-append (omega (arith, ends, so-far .nine, so-far .eight)) in
+        let counted : slot < length times = omega (arith, slot-in, so-far .counts) in
+        rw (values-own (slotField slot) (so-far .held) tag (between s start end) own, getD-set-same times slot (n + 1) 0 counted)
+        (record {
+          count = simp length-append (omega (arith, was .count));
+          few = omega (arith, below-most);
+          inside = λ j l. split (eqb j n)
+              (λ e. rw (eqb-true j n e, getD-set-same places (slot + n) (span start end) noSpan there)
+              (record { ordered = i .ordered; within = i .within }))
+              (λ e. let d = eqb-false j n e in
+              rw (getD-set-other places (slot + n) (slot + j) (span start end) noSpan (λ x. d (omega arith))) (was .inside j l));
+          value = λ j l. split (eqb j n)
+              (λ e. rw (eqb-true j n e, getD-set-same places (slot + n) (span start end) noSpan there)
+              (sym (getD-at vs (between s start end) [] [] n (sym (was .count)))))
+              (λ e. let d = eqb-false j n e in
+              rw (getD-set-other places (slot + n) (slot + j) (span start end) noSpan (λ x. d (omega arith)))
+              (was .value j l ∙ getD-more vs (between s start end) j (λ x. d (x ∙ sym (was .count)))));
+        })
+
+    -- any other
+    slot-same : (j : ℕ) → j < slots → (j ≡ slot → ⊥) → Slotted k s j (valuesOf (slotField j) now-held) (getD times′ j 0) places′
+    slot-same j h d =
+        let n : ℕ = getD times slot 0 in
+        let was = so-far .each j h in
+        let away : (x : ℕ) → x < room j → getD places′ (j + x) noSpan ≡ getD places (j + x) noSpan =
+        λ x l. getD-set-other places (slot + n) (j + x) (span start end) noSpan (apart j x slot n h slot-in l below-room d) in
+        rw (stays j h d, getD-set-other times slot j (n + 1) 0 d)
+        (record {
+          count = was .count;
+          few = was .few;
+          inside = λ x l. rw (away x l) (was .inside x l);
+          value = λ x l. rw (away x l) (was .value x l);
+        })
+
+    more : (first′ handles′ : List Span) → length first′ ≡ 9 → length handles′ ≡ 8 → places′ ≡ first′ ++ handles′
+        → Noted k s times′ first′ handles′ end
+    more first′ handles′ f h e =
         record {
-          place = i .within;
-          run = run-next i (so-far .run);
-          firsts = e;
+          held = now-held;
+          walked = walked-more (so-far .walked) i;
+          passed = all-passed;
           counts = length-set times slot _ ∙ so-far .counts;
-          each = λ j k. split (eqb j slot)
-              (λ d. rw (eqb-true j slot d, getD-set-same times slot (getD times slot 0 + 1) 0 room) m)
-              (λ d. let n = eqb-false j slot d in
-              rw (getD-set-other times slot j (getD times slot 0 + 1) 0 n, same j n) (others j k (λ f. n (f ∙ sym slot-is))));
+          nine = f;
+          eight = h;
+          each = λ j l. rw (← e) (split (eqb j slot) (λ d. rw (eqb-true j slot d) slot-more) (λ d. slot-same j l (eqb-false j slot d)));
         }
 
-    -- the slot's first child
-    pub slotted-first : getD times slot 0 ≡ 0 → Slotted s from (set first slot (span start end)) timesMore end
-    slotted-first z =
-        let room : slot < length first = omega (arith, so-far .firsts) in
-        one-more (set first slot (span start end)) (length-set first slot _ ∙ so-far .firsts)
-        (λ j n. getD-set-other first slot j (span start end) noSpan n)
-        (rw (getD-set-same first slot (span start end) noSpan room) (met-first i (so-far .run) (so-far .each slot h) own z))
+    -- among the key handles
+    pub noted-handle : slot ≡ 9 → Noted k s times′ first (set handles (getD times slot 0) (span start end)) end
+    noted-handle d =
+        more first (set handles (getD times slot 0) (span start end)) (so-far .nine) (length-set handles (getD times slot 0) _ ∙ so-far .eight)
+        (set-right first handles (slot + getD times slot 0) (getD times slot 0) (span start end) (omega (arith, d, so-far .nine)))
 
-    -- another child of the slot
-    pub slotted-again : (getD times slot 0 ≡ 0 → ⊥) → Slotted s from first timesMore end
-    slotted-again z = one-more first (so-far .firsts) (λ j n. refl) (met-again i (so-far .run) (so-far .each slot h) own z)
+    -- or as the one value of another slot
+    pub noted-first : (slot ≡ 9 → ⊥) → Noted k s times′ (set first slot (span start end)) handles end
+    noted-first d =
+        let once : getD times slot 0 ≡ 0 = omega (arith, rw (ne-eqb slot 9 d) at below-room) in
+        let z : slot + getD times slot 0 ≡ slot = omega (arith, once) in
+        more (set first slot (span start end)) handles (length-set first slot _ ∙ so-far .nine) (so-far .eight)
+        (ap (λ (x : ℕ). set places x (span start end)) z
+        ∙ set-append-left first handles slot (span start end) (omega (arith, so-far .nine, slot-in, d)))

@@ -1,14 +1,16 @@
 -- Where the fields of a command stand in it.
 use mathlib.Core.Path.{_≡_}
-use Prim.Native.Nat.{ℕ}
-use mathlib.Core.Bool.{true, false}
+use Prim.Native.Nat.{ℕ, _≤_}
+use mathlib.Core.Bool.{true, false, cond}
 use mathlib.Core.List.{List, [], _∷_}
+use lib.ListN.{length, drop, getD}
 use Rattle.model.specs.Tlv as model
-use Rattle.model.specs.Tlv.{broken, fieldsIn, fieldIn}
+use Rattle.model.specs.Tlv.{maxCommand, fills, broken, fieldsIn, fieldIn}
 use Rattle.tlv.specs.Heads.{part}
 use Rattle.tlv.specs.Spans.{noSpan, partsIn, Inside, AllInside}
 use Rattle.tlv.specs.declared.heads.Span.{Span}
 use Rattle.tlv.specs.declared.heads.Spans.{Spans}
+use Rattle.params.specs.Slots.{enough}
 use Rattle.params.specs.declared.parse.Params.{Params}
 
 -- a part of the command is the field's value; where an empty value's part stands is open
@@ -47,8 +49,32 @@ noParams =
       handles = record { at = noSpan ∷ noSpan ∷ noSpan ∷ noSpan ∷ noSpan ∷ noSpan ∷ noSpan ∷ noSpan ∷ []; len = 0 };
     }
 
+-- where every parameter stands, by the first value of each slot and the key handles, of which there are so many
+abbrev pub picked : (first handles : List Span) → ℕ → Params
+picked first handles n =
+    let at : ℕ → Span = λ slot. getD first slot noSpan in
+    record {
+      broken = false;
+      «app_id» = at 1;
+      «challenge_hash» = at 2;
+      username = at 3;
+      «attestation_type» = at 4;
+      «access_token» = at 7;
+      «key_id» = at 6;
+      «transaction_content» = at 5;
+      handles = record { at = handles; len = n };
+    }
+
+-- the answer to a command whose children were all taken
+unfoldable pub paramsAt : (least times : List ℕ) (first handles : List Span) → Params
+paramsAt least times first handles = cond (enough least times) (picked first handles (getD times 9 0)) noParams
+
 -- what the reader gives for a command of this kind
 pub record ParamsRead (k : model.Kind) (s : List ℕ) (r : Params) : Type 0 where
   pub broken-is : r .broken ≡ broken k s
   pub if-broken : broken k s ≡ true → r ≡ noParams
   pub unless-broken : broken k s ≡ false → ParamsPlaced s r
+
+-- what the reader of a child run gives: the answer to every command of this kind that is not too long and has this run after its header
+pub record ChildrenRead (k : model.Kind) (run : List ℕ) (r : Params) : Type 0 where
+  pub answers : (s : List ℕ) → length s ≤ maxCommand → fills s ≡ true → run ≡ drop 4 s → ParamsRead k s r

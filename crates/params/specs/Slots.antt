@@ -1,20 +1,13 @@
--- The fields that commands list, numbered, and what is known of each among a command's children.
-use mathlib.Core.Path.{_≡_}
-use Prim.Native.Nat.{ℕ, suc, _<_}
+-- The fields that commands list, numbered, and how often each command must and may be given each.
+use Prim.Native.Nat.{ℕ, suc}
 use mathlib.Core.Bool.{Bool, true, cond, _&&_}
-use mathlib.Core.List.{List, [], _∷_}
+use mathlib.Core.List.{List, [], _∷_, _++_, map}
 use mathlib.Core.Option.{Option, none, some}
-use lib.ListN.{length, getD}
+use lib.ListN.{getD}
 use lib.Dec.{leb, eqb}
 use Rattle.model.specs.Tlv as model
-use Rattle.model.specs.Tlv.{tagOf, fieldsOf, listed, valuesOf}
-use Rattle.tlv.specs.Heads.{part}
-use Rattle.tlv.specs.Spans.{Inside, noSpan}
-use Rattle.tlv.specs.declared.heads.Span.{Span}
-use Rattle.params.specs.Children.{runFrom}
-use Rattle.params.specs.declared.kinds.Times.{Times}
+use Rattle.model.specs.Tlv.{tagOf, fieldsOf, listed}
 use Rattle.params.specs.declared.kinds.Listing.{Listing}
-use Rattle.params.specs.declared.children.Slots.{Slots}
 
 -- in an order that every command's list keeps
 abbrev pub commandFields : List model.Field
@@ -39,46 +32,31 @@ placeOf tag (f ∷ fs) = cond (eqb (tagOf f) tag) 0 (suc (placeOf tag fs))
 unfoldable pub slotOf : ℕ → ℕ
 slotOf tag = placeOf tag commandFields
 
--- how often a listed field must and may be given; never, if it is not listed
-abbrev pub timesIn : Option model.Listed → Times
-timesIn none = record { least = 0; most = 0 }
-timesIn (some l) = record { least = l .least; most = l .most }
+-- how often a command must and may be given a field; never, if it does not list it
+abbrev pub leastIn : Option model.Listed → ℕ
+leastIn none = 0
+leastIn (some l) = l .least
 
--- how often a command must and may be given a field
-unfoldable pub timesFor : model.Kind → model.Field → Times
-timesFor k f = timesIn (listed (fieldsOf k) (tagOf f))
+abbrev pub mostIn : Option model.Listed → ℕ
+mostIn none = 0
+mostIn (some l) = l .most
 
--- how often each of the five must and may be given the field of a slot
-abbrev pub listingFor : ℕ → Listing
-listingFor slot =
-    let f = slotField slot in (
-      timesFor model.getInfo f,
-      timesFor model.register f,
-      timesFor model.sign f,
-      timesFor model.deregister f,
-      timesFor model.openSettings f,
-    )
+unfoldable pub leastFor : model.Kind → model.Field → ℕ
+leastFor k f = leastIn (listed (fieldsOf k) (tagOf f))
 
--- a field's values were counted, and the first of them found; where it is not given, an empty part
-pub record SlotIs (s : List ℕ) (vs : List (List ℕ)) (times : ℕ) (first : Span) : Type 0 where
-  pub times-are : times ≡ length vs
-  pub inside : Inside s first
-  pub value : part s first ≡ getD vs 0 []
+unfoldable pub mostFor : model.Kind → model.Field → ℕ
+mostFor k f = mostIn (listed (fieldsOf k) (tagOf f))
 
--- the values of every slot's field were counted, and the first of them found
-pub record SlotsAre (s : List ℕ) (from : ℕ) (r : Slots) : Type 0 where
-  pub each : (slot : ℕ) → slot < slots → SlotIs s (valuesOf (slotField slot) (runFrom s from)) (getD (r .times) slot 0) (getD (r .first) slot noSpan)
+-- a number of each slot's field, and last 0, for a tag that has no slot
+abbrev pub bySlot : (model.Field → ℕ) → List ℕ
+bySlot n = map n commandFields ++ (0 ∷ [])
 
--- given as often as it must and may be; a field that the command does not list is not counted
-abbrev pub timesAllowed : Times → ℕ → Bool
-timesAllowed t n = cond (eqb (t .most) 0) true (leb (t .least) n && leb n (t .most))
+-- how often a command must and may be given each
+abbrev pub listingFor : model.Kind → Listing
+listingFor k = record { least = bySlot (leastFor k); most = bySlot (mostFor k) }
 
--- a command allows that its fields are given so many times, field by field
-abbrev pub allowedFrom : model.Kind → List model.Field → List ℕ → Bool
-allowedFrom k [] ns = true
-allowedFrom k (f ∷ fs) [] = timesAllowed (timesFor k f) 0 && allowedFrom k fs []
-allowedFrom k (f ∷ fs) (n ∷ ns) = timesAllowed (timesFor k f) n && allowedFrom k fs ns
-
--- each field is given as often as the command allows
-unfoldable pub givenOk : model.Kind → List ℕ → Bool
-givenOk k ns = allowedFrom k commandFields ns
+-- each slot was given as often as it must be
+unfoldable pub enough : (least times : List ℕ) → Bool
+enough [] ns = true
+enough (m ∷ ms) [] = true
+enough (m ∷ ms) (n ∷ ns) = leb m n && enough ms ns

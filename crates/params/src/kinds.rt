@@ -1,12 +1,10 @@
-use fields::Field;
+use fields::MAX_COMMAND;
 use fields::tags;
 use tlv::numbers::get16;
 ghost use mathlib.Core.Path.{_≡_};
-ghost use Prim.Native.Nat.{_<_};
-ghost use Rattle.model.specs.Tlv.{kindOf};
-ghost use Rattle.fields.specs.Fields.{named};
+ghost use Rattle.model.specs.Tlv.{kindOf, ruleOf, fits};
 ghost use Rattle.params.specs.Kinds.{kindIs, namedAs};
-ghost use Rattle.params.specs.Slots.{slots, slotField, slotOf, timesFor, listingFor};
+ghost use Rattle.params.specs.Slots.{slotField, slotOf, listingFor};
 
 // The five commands.
 pub enum Kind {
@@ -65,25 +63,6 @@ pub const KEY_HANDLE: usize = 9;
 // How many there are.
 pub const SLOTS: usize = 10;
 
-// The field of a slot.
-pub fn slot_field(slot: usize) -> Field
-    requires { ⌜ slot < slots ⌝ }
-    ensures { λ r. ⌜ named r ≡ slotField slot ⌝ }
-{
-    match slot {
-        INDEX => Field::Index,
-        APP_ID => Field::AppId,
-        CHALLENGE_HASH => Field::ChallengeHash,
-        USERNAME => Field::Username,
-        ATTESTATION_TYPE => Field::AttestationType,
-        TRANSACTION_CONTENT => Field::TransactionContent,
-        KEY_ID => Field::KeyIdOrNone,
-        ACCESS_TOKEN => Field::AccessToken,
-        USER_VERIFY_TOKEN => Field::UserVerifyToken,
-        _ => Field::KeyHandle,
-    }
-}
-
 // The slot of the field with a tag; SLOTS for any other tag.
 pub fn slot_of(tag: usize) -> usize
     ensures { λ r. ⌜ r ≡ slotOf tag ⌝ }
@@ -103,54 +82,84 @@ pub fn slot_of(tag: usize) -> usize
     }
 }
 
-// How often a field must and may be given.
-pub struct Times {
-    pub least: u8,
-    pub most: u8,
+// How many numbers a listing has: one for each slot, and one more, 0, for any other tag.
+pub const ENTRIES: usize = 11;
+
+// How often the field of each slot must be given, and how often it may be.
+pub struct Listing {
+    pub least: [u8; ENTRIES],
+    pub most: [u8; ENTRIES],
 }
 
-// The four pairs that occur.
-const NEVER: Times = Times { least: 0, most: 0 };
+// What each command lists, in the order of the slots. A field that it does not list is never given. Made once for a command, it is
+// then indexed.
+pub fn listed(kind: Kind) -> Listing
+    ensures { λ r. ⌜ r ≡ listingFor (kindIs kind) ⌝ }
+{
+    match kind {
+        Kind::GetInfo => Listing {
+            least: [0, 0, 0, 0, 0, 0, 0, 0, 0, 0, 0],
+            most: [0, 0, 0, 0, 0, 0, 0, 0, 0, 0, 0],
+        },
+        Kind::Register => Listing {
+            least: [1, 0, 1, 1, 1, 0, 0, 1, 0, 0, 0],
+            most: [1, 1, 1, 1, 1, 0, 0, 1, 1, 0, 0],
+        },
+        Kind::Sign => Listing {
+            least: [1, 0, 1, 0, 0, 0, 0, 1, 0, 0, 0],
+            most: [1, 1, 1, 0, 0, 1, 0, 1, 1, 8, 0],
+        },
+        Kind::Deregister => Listing {
+            least: [1, 0, 0, 0, 0, 0, 1, 1, 0, 0, 0],
+            most: [1, 1, 0, 0, 0, 0, 1, 1, 0, 0, 0],
+        },
+        Kind::OpenSettings => Listing {
+            least: [1, 0, 0, 0, 0, 0, 0, 0, 0, 0, 0],
+            most: [1, 0, 0, 0, 0, 0, 0, 0, 0, 0, 0],
+        },
+    }
+}
 
-const OPTIONAL: Times = Times { least: 0, most: 1 };
+// The least and the greatest length of a value.
+struct Lengths(usize, usize);
 
-const ONCE: Times = Times { least: 1, most: 1 };
-
-const UP_TO_8: Times = Times { least: 0, most: 8 };
-
-// What GetInfo, Register, Sign, Deregister and Open settings list.
-struct Listing(Times, Times, Times, Times, Times);
-
-// The fields of all five commands, slot by slot. A field that a command does not list is never given.
-fn listed(slot: usize) -> Listing
-    requires { ⌜ slot < slots ⌝ }
-    ensures { λ r. ⌜ r ≡ listingFor slot ⌝ }
+// The lengths that the rule of a slot's field allows; `fields` has the same rules by name. A `match` on the number is a small table for the compiler.
+fn lengths_of(slot: usize) -> Lengths
+    ensures { λ r. ⌜ (r .0 ≡ ruleOf (slotField slot) .least) × (r .1 ≡ ruleOf (slotField slot) .most) ⌝ }
 {
     match slot {
-        INDEX => Listing(NEVER, ONCE, ONCE, ONCE, ONCE),
-        APP_ID => Listing(NEVER, OPTIONAL, OPTIONAL, OPTIONAL, NEVER),
-        CHALLENGE_HASH => Listing(NEVER, ONCE, ONCE, NEVER, NEVER),
-        USERNAME => Listing(NEVER, ONCE, NEVER, NEVER, NEVER),
-        ATTESTATION_TYPE => Listing(NEVER, ONCE, NEVER, NEVER, NEVER),
-        TRANSACTION_CONTENT => Listing(NEVER, NEVER, OPTIONAL, NEVER, NEVER),
-        KEY_ID => Listing(NEVER, NEVER, NEVER, ONCE, NEVER),
-        ACCESS_TOKEN => Listing(NEVER, ONCE, ONCE, ONCE, NEVER),
-        USER_VERIFY_TOKEN => Listing(NEVER, OPTIONAL, OPTIONAL, NEVER, NEVER),
-        _ => Listing(NEVER, NEVER, UP_TO_8, NEVER, NEVER),
+        INDEX => Lengths(1, 1),
+        APP_ID => Lengths(1, 512),
+        CHALLENGE_HASH => Lengths(1, 32),
+        USERNAME => Lengths(1, 128),
+        ATTESTATION_TYPE => Lengths(2, 2),
+        TRANSACTION_CONTENT => Lengths(0, MAX_COMMAND),
+        KEY_ID => Lengths(0, 32),
+        ACCESS_TOKEN => Lengths(1, 32),
+        USER_VERIFY_TOKEN => Lengths(0, MAX_COMMAND),
+        _ => Lengths(32, 32),
     }
 }
 
-// How often a command must and may be given the field of a slot.
-pub fn times_of(kind: Kind, slot: usize) -> Times
-    requires { ⌜ slot < slots ⌝ }
-    ensures { λ r. ⌜ r ≡ timesFor (kindIs kind) (slotField slot) ⌝ }
+// Whether a value obeys the rule of a slot's field: its length, that an index is 0, and that a KeyID is whole or empty.
+pub fn slot_fits(slot: usize, v: &[u8]) -> bool
+    ensures { λ r. ⌜ r ≡ fits (slotField slot) (now (v .entry)) ⌝ }
 {
-    let listing = listed(slot);
-    match kind {
-        Kind::GetInfo => listing.0,
-        Kind::Register => listing.1,
-        Kind::Sign => listing.2,
-        Kind::Deregister => listing.3,
-        Kind::OpenSettings => listing.4,
+    let lengths = lengths_of(slot);
+    if v.len() < lengths.0 {
+        return false;
     }
+    if lengths.1 < v.len() {
+        return false;
+    }
+    if slot == INDEX {
+        return v[0] == 0;
+    }
+    if slot == KEY_ID {
+        if v.len() == 0 {
+            return true;
+        }
+        return v.len() == 32;
+    }
+    true
 }

@@ -1,39 +1,19 @@
-use crate::children::are_children;
-use crate::children::gather;
-use crate::children::times_ok;
-use crate::children::values_of;
+use crate::children::are_enough;
+use crate::children::is_taken;
 use crate::kinds;
+use crate::kinds::ENTRIES;
+use crate::kinds::KEY_HANDLE;
 use crate::kinds::Kind;
-use fields::Field;
 use fields::MAX_COMMAND;
+use tlv::heads::Head;
 use tlv::heads::NO_SPAN;
 use tlv::heads::Span;
 use tlv::heads::Spans;
 use tlv::reader::is_whole;
+use tlv::walk::tlv_at;
 ghost use mathlib.Core.Path.{_≡_};
-ghost use Prim.Native.Nat.{_≤_};
-ghost use mathlib.Core.Bool.{true};
-ghost use lib.ListN.{length};
-ghost use Rattle.model.specs.Lists.{given};
-ghost use Rattle.model.specs.Tlv.{keyHandle, children, fieldsIn};
 ghost use Rattle.params.specs.Kinds.{kindIs};
-ghost use Rattle.params.specs.Parse.{HandlesPlaced, noParams, ParamsRead};
-
-// Where the key handles stand, of which there are n: nothing is looked for where there are none.
-fn handles_in(s: &[u8], n: usize) -> Spans
-    requires { ⌜ (given (children (now s)) ≡ true) × (n ≡ length (fieldsIn keyHandle (now s))) × (n ≤ 8) ⌝ }
-    ensures { λ r. ⌜ HandlesPlaced (now (s .entry)) r ⌝ }
-{
-    if n == 0 {
-        return Spans {
-            at: [NO_SPAN; 8],
-            len: 0,
-        };
-    }
-    let v = values_of(s, 4, Field::KeyHandle);
-    let at = v.at;
-    Spans { at, len: v.times }
-}
+ghost use Rattle.params.specs.Parse.{noParams, paramsAt, ParamsRead, ChildrenRead};
 
 // The fields of a command: whether it breaks a rule and, if not, where each field's bytes stand in it. AppID and access token are for
 // whoever works out the mixed token.
@@ -69,7 +49,81 @@ fn no_params() -> Params
     }
 }
 
-// Reads a command of this kind. Its child run, which starts after the four header bytes, is passed on as a part of it.
+// The answer to a command whose children were all taken: how often each slot was given, where the first of its values stands, and where the
+// key handles stand, whose slot is the last.
+fn params_at(
+    least: [u8; ENTRIES],
+    times: [u8; ENTRIES],
+    first: [Span; KEY_HANDLE],
+    handles: [Span; 8],
+) -> Params
+    ensures { λ r. ⌜ r ≡ paramsAt least times first handles ⌝ }
+{
+    if !are_enough(times, least) {
+        return no_params();
+    }
+    Params {
+        broken: false,
+        app_id: first[kinds::APP_ID],
+        challenge_hash: first[kinds::CHALLENGE_HASH],
+        username: first[kinds::USERNAME],
+        attestation_type: first[kinds::ATTESTATION_TYPE],
+        transaction_content: first[kinds::TRANSACTION_CONTENT],
+        key_id: first[kinds::KEY_ID],
+        access_token: first[kinds::ACCESS_TOKEN],
+        handles: Spans {
+            at: handles,
+            len: times[KEY_HANDLE] as usize,
+        },
+    }
+}
+
+// The bytes of a command's header: its child run follows them.
+const HEADER: usize = 4;
+
+// Reads the child run of a command of this kind, in one walk: each child is taken or the command is broken, and each listed one is noted. Places
+// count from the command's first byte.
+fn read_children(run: &[u8], kind: Kind) -> Params
+    ensures { λ r. ⌜ ChildrenRead (kindIs kind) (now (run .entry)) r ⌝ }
+{
+    let listing = kinds::listed(kind);
+    let least = listing.least;
+    let most = listing.most;
+    let mut times = [0u8; ENTRIES];
+    let mut first = [NO_SPAN; KEY_HANDLE];
+    let mut handles = [NO_SPAN; 8];
+    let mut at = 0;
+    loop {
+        let h = tlv_at(run, at);
+        match h {
+            Head::End => return params_at(least, times, first, handles),
+            Head::Bad => return no_params(),
+            Head::Tlv { tag, start, end } => {
+                let slot = kinds::slot_of(tag);
+                let n = times[slot];
+                let at_most = most[slot];
+                if !is_taken(tag, &run[start..end], slot, n, at_most) {
+                    return no_params();
+                }
+                if 0 < at_most {
+                    let place = Span {
+                        start: HEADER + start,
+                        end: HEADER + end,
+                    };
+                    if slot == KEY_HANDLE {
+                        handles[n as usize] = place;
+                    } else {
+                        first[slot] = place;
+                    }
+                    times[slot] = n + 1;
+                }
+                at = end;
+            }
+        }
+    }
+}
+
+// Reads a command of this kind. Its child run is passed on as a part of it.
 pub fn params_of(s: &[u8], kind: Kind) -> Params
     ensures { λ r. ⌜ ParamsRead (kindIs kind) (now (s .entry)) r ⌝ }
 {
@@ -79,23 +133,5 @@ pub fn params_of(s: &[u8], kind: Kind) -> Params
     if !is_whole(s) {
         return no_params();
     }
-    if !are_children(&s[4..], kind) {
-        return no_params();
-    }
-    let given = gather(s, 4);
-    if !times_ok(given, kind) {
-        return no_params();
-    }
-    let handles = handles_in(s, given.times[kinds::KEY_HANDLE]);
-    Params {
-        broken: false,
-        app_id: given.first[kinds::APP_ID],
-        challenge_hash: given.first[kinds::CHALLENGE_HASH],
-        username: given.first[kinds::USERNAME],
-        attestation_type: given.first[kinds::ATTESTATION_TYPE],
-        transaction_content: given.first[kinds::TRANSACTION_CONTENT],
-        key_id: given.first[kinds::KEY_ID],
-        access_token: given.first[kinds::ACCESS_TOKEN],
-        handles,
-    }
+    read_children(&s[HEADER..], kind)
 }
