@@ -12,8 +12,8 @@ use fields::refusals::SHORT_OUTPUT;
 use fields::refusals::WRONG_LENT;
 use fields::refusals::Written;
 use fields::tags;
-use layouts::Group;
-use layouts::after_group;
+use layouts::after_krd;
+use layouts::after_signed;
 ghost use mathlib.Core.Path.{_≡_};
 ghost use mathlib.Core.List.{[]};
 ghost use lib.ListN.{length};
@@ -32,15 +32,12 @@ fn is_draft(kind: u32, draft: &[u8]) -> bool
     ensures { λ r. ⌜ r ≡ isDraft kind (now (draft .entry)) ⌝ }
 {
     if kind == REGISTRATION {
-        return after_group(draft, 0, Group::Krd) == draft.len();
+        return after_krd(draft, 0) == draft.len();
     }
     if kind != SIGN {
         return false;
     }
-    if after_group(draft, 0, Group::SignedContent) == draft.len() {
-        return true;
-    }
-    after_group(draft, 0, Group::SignedData) == draft.len()
+    after_signed(draft, 0) == draft.len()
 }
 
 // Whether signature, attestation type and certificate are what this kind takes.

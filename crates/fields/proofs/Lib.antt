@@ -1,3 +1,2 @@
--- The laws of fields read at a place.
+-- What a size says of a value.
 pub mod FieldLaws
-pub mod AllowedLaws

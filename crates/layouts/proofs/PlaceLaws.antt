@@ -1,59 +1,30 @@
--- Where the next thing starts, by what stands at a place; how a layout reads on from there; and what stands before a place that was found.
+-- How a layout reads on from the place after its first TLV, and what stands before a place that was found.
 -- Assumes nothing.
 use mathlib.Core.Path.{_≡_, refl, sym, _∙_}
-use mathlib.Core.Bool.{Bool, true, false, cond, _&&_, and-false}
-use mathlib.Core.List.{List, _∷_}
+use mathlib.Core.Bool.{Bool, true, false, cond, _&&_, _||_, and-false}
+use mathlib.Core.List.{List, [], _∷_}
 use mathlib.Core.Option.{Option, none, some, Option·map}
 use Prim.Native.Nat.{ℕ, _+_, _-_, _≤_, _<_}
 use native.Mathlib.Omega.{arith}
 use lib.ListN.{length, drop, length-drop}
 use lib.Seq.{take-all}
 use lib.Dec.{leb, eqb}
-use borrow.Author.Tests.{le-leb, lt-leb, eq-eqb, ne-eqb, eqb-true, eqb-false}
-use Rattle.model.specs.Tlv.{Tlv, tlvs, isRun, Field, tagOf, fits}
+use borrow.Author.Tests.{le-leb, lt-leb, ne-eqb, eqb-true, eqb-false}
+use Rattle.model.specs.Tlv.{Tlv, tlvs, isRun, Field, ruleOf, tagOf, fits, signedTag}
 use Rattle.model.specs.Layouts.{Layout, end, field, group, matches, reads}
+use Rattle.model.specs.Commands.{signedData}
 use Rattle.model.proofs.Basics.{split, and-left, and-right}
 use Rattle.tlv.specs.Heads.{headAt, between}
 use Rattle.tlv.specs.declared.heads.Head.{Head}
 use Rattle.tlv.specs.declared.heads.Head.the-variants.{Tlv as Found, Bad, End}
 use Rattle.tlv.proofs.HeadLaws.{IsTlv, tlv-is, bad-is, end-is, run-end, run-bad, run-tlv}
-use Rattle.fields.specs.Fields.{foundIn, fieldAt}
-use Rattle.fields.specs.declared.Found.{Found as FieldFound}
-use Rattle.fields.specs.declared.Found.the-variants.{At, Missing}
-use Rattle.fields.proofs.FieldLaws.{end-first, field-is, field-not, field-step}
-use Rattle.layouts.specs.Places.{nowhere, readsAt, pastFound, afterField, inHead, inGroup, pastHead, afterGroup}
+use Rattle.layouts.specs.Places.{nowhere, readsAt, pastHead, afterTlv, obeys, afterField, afterGroup, inHead, inGroup}
+use Rattle.layouts.specs.Groups.{signedFields, afterSigned}
 
--- ---- the next place, by what stands at a place
-
-pub after-found : (f : Field) (s : List ℕ) (at : ℕ) {o : FieldFound} → fieldAt f s at ≡ o → afterField f s at ≡ pastFound s o
-unfolding afterField
-after-found f s at e = rw e
-
--- into a TLV; without one, the arms Bad and End, `in-head` computes to nowhere
-module _ (t : ℕ) (s : List ℕ) (at : ℕ) where
-  pub in-head : {h : Head} → headAt s at ≡ h → inGroup t s at ≡ inHead t s h
-  unfolding inGroup
-  in-head e = rw e
-
-  module _ {tag start end : ℕ} (e : headAt s at ≡ Found tag start end) where
-    pub in-other : (tag ≡ t → ⊥) → inGroup t s at ≡ nowhere s
-    in-other h = in-head e ∙ simp (ne-eqb _ _ h)
-
-    pub in-tag : (b : Bool) → tag ≡ t → eqb end (length s) ≡ b → inGroup t s at ≡ cond b start (nowhere s)
-    in-tag b h k = in-head e ∙ simp (eq-eqb _ _ h, k)
-
--- past a TLV, in the same way
-module _ (t : ℕ) (inner : Layout) (s : List ℕ) (at : ℕ) where
-  pub past-head : {h : Head} → headAt s at ≡ h → afterGroup t inner s at ≡ pastHead t inner s h
-  unfolding afterGroup
-  past-head e = rw e
-
-  module _ {tag start end : ℕ} (e : headAt s at ≡ Found tag start end) where
-    pub past-other : (tag ≡ t → ⊥) → afterGroup t inner s at ≡ nowhere s
-    past-other h = past-head e ∙ simp (ne-eqb _ _ h)
-
-    pub past-tag : (b : Bool) → tag ≡ t → reads inner (between s start end) ≡ b → afterGroup t inner s at ≡ cond b end (nowhere s)
-    past-tag b h k = past-head e ∙ simp (eq-eqb _ _ h, k)
+-- the next place, by what stands at a place
+pub past-head : (t : ℕ) (p : List ℕ → Bool) (s : List ℕ) (at : ℕ) {h : Head} → headAt s at ≡ h → afterTlv t p s at ≡ pastHead t p s h
+unfolding afterTlv
+past-head t p s at e = rw e
 
 -- ---- reading on from the next place
 
@@ -72,18 +43,16 @@ unfolding readsAt reads
 unread l s at e = rw e (and-false (leb at (length s)))
 
 -- a place that is found if a test says so
-found-if : (b : Bool) (l : Layout) (s : List ℕ) (at : ℕ) → readsAt l s (cond b at (nowhere s)) ≡ (b && readsAt l s at)
+pub found-if : (b : Bool) (l : Layout) (s : List ℕ) (at : ℕ) → readsAt l s (cond b at (nowhere s)) ≡ (b && readsAt l s at)
 unfolding readsAt
 found-if true l s at = refl
 found-if false l s at = simp (lt-leb (length s + 1) (length s) (omega arith))
 
--- a group against a run's first TLV
-matches-group : (t : ℕ) (inner l : Layout) (c : Tlv) (o : Option (List Tlv))
-    → isRun (matches (group t inner l)) (Option·map (λ ts. c ∷ ts) o)
-    ≡ (eqb (c .tag) t && reads inner (c .value) && isRun (matches l) o)
-unfolding matches reads
-matches-group t inner l c none = sym (and-false (eqb (c .tag) t && reads inner (c .value)))
-matches-group t inner l c (some ts) = refl
+-- nothing more against a run's first TLV
+end-first : (c : Tlv) (o : Option (List Tlv)) → isRun (matches end) (Option·map (λ ts. c ∷ ts) o) ≡ false
+unfolding matches
+end-first c none = refl
+end-first c (some ts) = refl
 
 end-head : (s : List ℕ) (at : ℕ) (h : Head) → headAt s at ≡ h → readsAt end s at ≡ eqb at (length s)
 unfolding matches readsAt reads
@@ -102,31 +71,62 @@ end-head s at End e =
 pub read-end : (s : List ℕ) (at : ℕ) → readsAt end s at ≡ eqb at (length s)
 read-end s at = end-head s at (headAt s at) refl
 
-field-found : (f : Field) (l : Layout) (s : List ℕ) (at : ℕ) (o : FieldFound) → fieldAt f s at ≡ o
-    → readsAt (field f l) s at ≡ readsAt l s (pastFound s o)
-field-found f l s at (At p) e =
-    let i = field-is f s at p e in
-    inside (field f l) s at (omega (arith, i)) ∙ field-step l i ∙ sym (inside l s (p .end) (omega (arith, i)))
-field-found f l s at Missing e = unread (field f l) s at (field-not f s at l e) ∙ sym (found-if false l s at)
+-- a layout begins with a TLV of this tag, whose value passes a test, and goes on with another layout
+record Begins (whole : Layout) (t : ℕ) (p : List ℕ → Bool) (l : Layout) : Type 0 where
+  never : matches whole [] ≡ false
+  first : (c : Tlv) (ts : List Tlv) → matches whole (c ∷ ts) ≡ (eqb (c .tag) t && p (c .value) && matches l ts)
+
+begins-field : (f : Field) (l : Layout) → Begins (field f l) (tagOf f) (obeys (ruleOf f)) l
+unfolding matches fits
+begins-field f l = record { never = refl; first = λ c ts. refl }
+
+begins-group : (t : ℕ) (inner l : Layout) → Begins (group t inner l) t (reads inner) l
+unfolding matches reads
+begins-group t inner l = record { never = refl; first = λ c ts. refl }
+
+module _ {whole : Layout} {t : ℕ} {p : List ℕ → Bool} {l : Layout} (b : Begins whole t p l) (s : List ℕ) (at : ℕ) where
+  against : (c : Tlv) (o : Option (List Tlv))
+      → isRun (matches whole) (Option·map (λ ts. c ∷ ts) o) ≡ (eqb (c .tag) t && p (c .value) && isRun (matches l) o)
+  against c none = sym (and-false (eqb (c .tag) t && p (c .value)))
+  against c (some ts) = b .first c ts
+
+  by-head : (h : Head) → headAt s at ≡ h → readsAt whole s at ≡ readsAt l s (pastHead t p s h)
+  by-head (Found tag start stop) e =
+      let i = tlv-is s at tag start stop e in
+      rw (inside whole s at (omega (arith, i)), run-tlv i, found-if, inside l s stop (i .within)) (against _ (tlvs (drop stop s)))
+  by-head Bad e = unread whole s at (rw (run-bad s at e)) ∙ sym (found-if false l s at)
+  by-head End e = unread whole s at (rw (run-end s at e) (b .never)) ∙ sym (found-if false l s at)
+
+  read-first : readsAt whole s at ≡ readsAt l s (afterTlv t p s at)
+  unfolding afterTlv
+  read-first = by-head (headAt s at) refl
 
 pub read-field : (f : Field) (l : Layout) (s : List ℕ) (at : ℕ) → readsAt (field f l) s at ≡ readsAt l s (afterField f s at)
-unfolding afterField
-read-field f l s at = field-found f l s at (fieldAt f s at) refl
-
-group-head : (t : ℕ) (inner l : Layout) (s : List ℕ) (at : ℕ) (h : Head) → headAt s at ≡ h
-    → readsAt (group t inner l) s at ≡ readsAt l s (pastHead t inner s h)
-unfolding matches
-group-head t inner l s at (Found tag start stop) e =
-    let i = tlv-is s at tag start stop e in
-    rw (inside (group t inner l) s at (omega (arith, i)), run-tlv i, found-if, inside l s stop (i .within))
-    (matches-group t inner l _ (tlvs (drop stop s)))
-group-head t inner l s at Bad e = unread (group t inner l) s at (rw (run-bad s at e)) ∙ sym (found-if false l s at)
-group-head t inner l s at End e = unread (group t inner l) s at (rw (run-end s at e)) ∙ sym (found-if false l s at)
+read-field f l s at = read-first (begins-field f l) s at
 
 pub read-group : (t : ℕ) (inner l : Layout) (s : List ℕ) (at : ℕ)
     → readsAt (group t inner l) s at ≡ readsAt l s (afterGroup t inner s at)
-unfolding afterGroup
-read-group t inner l s at = group-head t inner l s at (headAt s at) refl
+read-group t inner l s at = read-first (begins-group t inner l) s at
+
+-- one TLV whose value passes one of two tests
+module _ (t : ℕ) (p q : List ℕ → Bool) (l : Layout) (s : List ℕ) (at : ℕ) where
+  apart : (a b c d : Bool) → (a && (b || c) && d) ≡ (a && b && d || a && c && d)
+  apart true true true true = refl
+  apart true true true false = refl
+  apart true true false true = refl
+  apart true true false false = refl
+  apart true false c d = refl
+  apart false b c d = refl
+
+  either-head : (h : Head)
+      → readsAt l s (pastHead t (λ v. p v || q v) s h) ≡ (readsAt l s (pastHead t p s h) || readsAt l s (pastHead t q s h))
+  either-head (Found tag start stop) = simp found-if (apart (eqb tag t) (p (between s start stop)) (q (between s start stop)) (readsAt l s stop))
+  either-head Bad = simp (found-if false l s at)
+  either-head End = simp (found-if false l s at)
+
+  either-test : readsAt l s (afterTlv t (λ v. p v || q v) s at) ≡ (readsAt l s (afterTlv t p s at) || readsAt l s (afterTlv t q s at))
+  unfolding afterTlv
+  either-test = either-head (headAt s at)
 
 -- of a TLV that ends with the stretch the value is the rest, so the layout of its value reads on in the stretch itself
 last-tlv : (a b c d : Bool) → (c ≡ true → b ≡ d) → (a && b && c) ≡ (a && c && d)
@@ -142,7 +142,7 @@ last-value l s start stop h e =
     rw (take-all (stop - start) (drop start s) (simp length-drop (omega arith))) (simp (le-leb start (length s) k))
 
 last-head : (t : ℕ) (inner : Layout) (s : List ℕ) (at : ℕ) (h : Head) → headAt s at ≡ h
-    → readsAt end s (pastHead t inner s h) ≡ readsAt inner s (inHead t s h)
+    → readsAt end s (pastHead t (reads inner) s h) ≡ readsAt inner s (inHead t s h)
 last-head t inner s at (Found tag start stop) e =
     let i = tlv-is s at tag start stop e in
     simp (found-if, read-end)
@@ -152,7 +152,7 @@ last-head t inner s at Bad e = found-if false end s at ∙ sym (found-if false i
 last-head t inner s at End e = found-if false end s at ∙ sym (found-if false inner s at)
 
 pub read-last : (t : ℕ) (inner : Layout) (s : List ℕ) (at : ℕ) → readsAt (group t inner end) s at ≡ readsAt inner s (inGroup t s at)
-unfolding inGroup afterGroup
+unfolding inGroup afterTlv
 read-last t inner s at = read-group t inner end s at ∙ last-head t inner s at (headAt s at) refl
 
 -- ---- a chain of places: what the test at its end says of the layout at its start
@@ -174,6 +174,14 @@ module _ {s : List ℕ} where
 
     pub then-group : {t : ℕ} {inner : Layout} → next ≡ afterGroup t inner s at → Gives l s next r → Gives (group t inner l) s at r
     then-group {t} {inner} e g = record { given = g .given ∙ rw e (sym (read-group t inner l s at)) }
+
+  -- SIGNED_DATA, with content or without
+  pub then-signed : {l : Layout} {next : ℕ} {r : Bool} (at : ℕ) → next ≡ afterSigned s at → Gives l s next r
+      → r ≡ (readsAt (signedData true l) s at || readsAt (signedData false l) s at)
+  then-signed {l} at e g =
+      g .given
+      ∙ rw (e, read-group signedTag (signedFields true) l s at, read-group signedTag (signedFields false) l s at)
+      (either-test signedTag (reads (signedFields true)) (reads (signedFields false)) l s at)
 
   pub from-front : {l : Layout} {r : Bool} → Gives l s 0 r → r ≡ reads l s
   from-front {l} g = g .given ∙ sym (reads-front l s)
@@ -201,32 +209,16 @@ module _ {s : List ℕ} {at to : ℕ} (h : to ≤ length s) where
   unfolding inGroup
   in-before t e = in-tlv t (headAt s at) refl e
 
-  past-tlv : (t : ℕ) (inner : Layout) (o : Head) → headAt s at ≡ o → to ≡ pastHead t inner s o
-      → IsTlv s at t (at + 4) to × (reads inner (between s (at + 4) to) ≡ true)
-  past-tlv t inner (Found tag start stop) q e =
+  past-tlv : (t : ℕ) (p : List ℕ → Bool) (o : Head) → headAt s at ≡ o → to ≡ pastHead t p s o
+      → IsTlv s at t (at + 4) to × (p (between s (at + 4) to) ≡ true)
+  past-tlv t p (Found tag start stop) q e =
       let i = tlv-is s at tag start stop q in
-      let p = found (eqb tag t && reads inner (between s start stop)) s stop to e h in
-      let g : tag ≡ t = eqb-true _ _ (and-left (eqb tag t) _ (p .0)) in
-      rw (p .1, ← g, ← i .start-is) (i, and-right (eqb tag t) _ (p .0))
-  past-tlv t inner Bad q e = absurd (omega arith)
-  past-tlv t inner End q e = absurd (omega arith)
+      let d = found (eqb tag t && p (between s start stop)) s stop to e h in
+      let g : tag ≡ t = eqb-true _ _ (and-left (eqb tag t) _ (d .0)) in
+      rw (d .1, ← g, ← i .start-is) (i, and-right (eqb tag t) _ (d .0))
+  past-tlv t p Bad q e = absurd (omega arith)
+  past-tlv t p End q e = absurd (omega arith)
 
-  pub group-before : (t : ℕ) (inner : Layout) → to ≡ afterGroup t inner s at
-      → IsTlv s at t (at + 4) to × (reads inner (between s (at + 4) to) ≡ true)
-  unfolding afterGroup
-  group-before t inner e = past-tlv t inner (headAt s at) refl e
-
-  field-tlv : (f : Field) (o : Head) → headAt s at ≡ o → to ≡ pastFound s (foundIn f s o) → IsTlv s at (tagOf f) (at + 4) to
-  field-tlv f (Found tag start stop) q e =
-      let i = tlv-is s at tag start stop q in
-      split (eqb tag (tagOf f) && fits f (between s start stop))
-      (λ b. let g : tag ≡ tagOf f = eqb-true _ _ (and-left (eqb tag (tagOf f)) _ b) in
-      let k : to ≡ stop = rw b at e in
-      rw (k, ← g, ← i .start-is) i)
-      (λ b. let k : to ≡ nowhere s = rw b at e in absurd (omega arith))
-  field-tlv f Bad q e = absurd (omega arith)
-  field-tlv f End q e = absurd (omega arith)
-
-  pub field-before : (f : Field) → to ≡ afterField f s at → IsTlv s at (tagOf f) (at + 4) to
-  unfolding afterField fieldAt
-  field-before f e = field-tlv f (headAt s at) refl e
+  pub tlv-before : (t : ℕ) (p : List ℕ → Bool) → to ≡ afterTlv t p s at → IsTlv s at t (at + 4) to × (p (between s (at + 4) to) ≡ true)
+  unfolding afterTlv
+  tlv-before t p e = past-tlv t p (headAt s at) refl e

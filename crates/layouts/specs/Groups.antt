@@ -1,25 +1,11 @@
--- Which layout of `model` each of the code's groups is.
+-- What the groups hold that may be followed by something, by the layouts of `model`.
 use Prim.Native.Nat.{ℕ}
-use mathlib.Core.Bool.{true, false}
-use Rattle.model.specs.Layouts.{Layout, end, field, group}
-use Rattle.model.specs.Records.{storedRecord}
-use Rattle.model.specs.Commands.{keyRegistrationData, signedData, namePairs}
-use Rattle.layouts.specs.declared.Group.{Group}
-use Rattle.layouts.specs.declared.Group.the-variants.{Krd, SignedData, SignedContent, Pair, Record}
-
--- the group, with nothing after it
-abbrev pub layoutOf : Group → Layout
-layoutOf Krd = keyRegistrationData end
-layoutOf SignedData = signedData false end
-layoutOf SignedContent = signedData true end
-layoutOf Pair = namePairs 1
-layoutOf Record = storedRecord
-
--- the tag of a layout that is one group
-abbrev tagIn : Layout → ℕ
-tagIn end = 0
-tagIn (field f l) = 0
-tagIn (group t inner l) = t
+use mathlib.Core.Bool.{Bool, true, false, _||_}
+use mathlib.Core.List.{List, [], _∷_}
+use Rattle.model.specs.Tlv.{nonce, challengeHash, contentHash, keyId, newCount, signedTag}
+use Rattle.model.specs.Layouts.{Layout, end, field, group, fields, reads}
+use Rattle.model.specs.Commands.{keyRegistrationData, signedData}
+use Rattle.layouts.specs.Places.{afterTlv}
 
 -- the inside of a layout that is one group
 abbrev insideIn : Layout → Layout
@@ -27,10 +13,21 @@ insideIn end = end
 insideIn (field f l) = end
 insideIn (group t inner l) = inner
 
--- a group's tag
-abbrev pub groupTag : Group → ℕ
-groupTag g = tagIn (layoutOf g)
+abbrev pub krdFields : Layout
+krdFields = insideIn (keyRegistrationData end)
 
--- what a group holds
-abbrev pub groupInside : Group → Layout
-groupInside g = insideIn (layoutOf g)
+-- with content or without
+abbrev pub signedFields : Bool → Layout
+signedFields content = insideIn (signedData content end)
+
+-- those that stand after ASSERTION_INFO
+abbrev pub signedRest : Bool → Layout
+signedRest content = fields (nonce ∷ challengeHash ∷ contentHash content ∷ keyId ∷ newCount ∷ [])
+
+-- one of the two layouts reads what SIGNED_DATA holds
+abbrev pub isSignedData : List ℕ → Bool
+isSignedData v = reads (signedFields true) v || reads (signedFields false) v
+
+-- the place after SIGNED_DATA, whichever of the two it is
+abbrev pub afterSigned : List ℕ → ℕ → ℕ
+afterSigned s at = afterTlv signedTag isSignedData s at

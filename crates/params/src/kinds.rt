@@ -1,4 +1,5 @@
-use fields::MAX_COMMAND;
+use fields::sizes;
+use fields::sizes::Size;
 use fields::tags;
 use tlv::numbers::get16;
 ghost use mathlib.Core.Path.{_≡_};
@@ -120,24 +121,21 @@ pub fn listed(kind: Kind) -> Listing
     }
 }
 
-// The least and the greatest length of a value.
-struct Lengths(usize, usize);
-
-// The lengths that the rule of a slot's field allows; `fields` has the same rules by name. A `match` on the number is a small table for the compiler.
-fn lengths_of(slot: usize) -> Lengths
-    ensures { λ r. ⌜ (r .0 ≡ ruleOf (slotField slot) .least) × (r .1 ≡ ruleOf (slotField slot) .most) ⌝ }
+// The size of a slot's field. A `match` on the number is a small table for the compiler.
+fn size_of(slot: usize) -> Size
+    ensures { λ r. ⌜ (r .least ≡ ruleOf (slotField slot) .least) × (r .most ≡ ruleOf (slotField slot) .most) ⌝ }
 {
     match slot {
-        INDEX => Lengths(1, 1),
-        APP_ID => Lengths(1, 512),
-        CHALLENGE_HASH => Lengths(1, 32),
-        USERNAME => Lengths(1, 128),
-        ATTESTATION_TYPE => Lengths(2, 2),
-        TRANSACTION_CONTENT => Lengths(0, MAX_COMMAND),
-        KEY_ID => Lengths(0, 32),
-        ACCESS_TOKEN => Lengths(1, 32),
-        USER_VERIFY_TOKEN => Lengths(0, MAX_COMMAND),
-        _ => Lengths(32, 32),
+        INDEX => sizes::INDEX,
+        APP_ID => sizes::APP_ID,
+        CHALLENGE_HASH => sizes::CHALLENGE_HASH,
+        USERNAME => sizes::USERNAME,
+        ATTESTATION_TYPE => sizes::ATTESTATION_TYPE,
+        TRANSACTION_CONTENT => sizes::TRANSACTION_CONTENT,
+        KEY_ID => sizes::KEY_ID_OR_NONE,
+        ACCESS_TOKEN => sizes::ACCESS_TOKEN,
+        USER_VERIFY_TOKEN => sizes::USERVERIFY_TOKEN,
+        _ => sizes::KEY_HANDLE,
     }
 }
 
@@ -145,11 +143,11 @@ fn lengths_of(slot: usize) -> Lengths
 pub fn slot_fits(slot: usize, v: &[u8]) -> bool
     ensures { λ r. ⌜ r ≡ fits (slotField slot) (now (v .entry)) ⌝ }
 {
-    let lengths = lengths_of(slot);
-    if v.len() < lengths.0 {
+    let size = size_of(slot);
+    if v.len() < size.least {
         return false;
     }
-    if lengths.1 < v.len() {
+    if size.most < v.len() {
         return false;
     }
     if slot == INDEX {

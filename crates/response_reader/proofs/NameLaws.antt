@@ -11,7 +11,7 @@ use lib.Seq.{drop-drop, take-suc-set}
 use lib.Dec.{leb, eqb}
 use borrow.Author.Tests.{leb-true, leb-false, eqb-true, eqb-false, le-leb, lt-leb, eq-eqb, ne-eqb}
 use Rattle.model.specs.Lists.{any, select, distinct}
-use Rattle.model.specs.Tlv.{tagOf, ok, keyHandle, sign, pairTag, responseTag}
+use Rattle.model.specs.Tlv.{ruleOf, tagOf, ok, keyHandle, sign, pairTag, responseTag}
 use Rattle.model.specs.Layouts.{Layout, end, fields, reads}
 use Rattle.model.specs.Commands.{pairFields, namePairs, nameList}
 use Rattle.model.specs.Reader.{Part, holds, partsAt, fieldParts, listedKeys, listLengths, isHandle}
@@ -23,8 +23,8 @@ use Rattle.tlv.specs.Heads.{between}
 use Rattle.tlv.proofs.HeadLaws.{IsTlv, head-end, length-part}
 use Rattle.tlv.specs.Rows.{rows, row, Within}
 use Rattle.tlv.proofs.RowLaws.{rows-more, within-more}
-use Rattle.layouts.specs.Places.{nowhere, readsAt, afterGroup}
-use Rattle.layouts.proofs.PlaceLaws.{past-head, read-end, read-group, then-field, then-last, from-front, in-before, group-before, field-before}
+use Rattle.layouts.specs.Places.{nowhere, readsAt, obeys, afterGroup}
+use Rattle.layouts.proofs.PlaceLaws.{past-head, read-end, read-group, then-field, then-last, from-front, in-before, tlv-before}
 use Rattle.layouts.proofs.SizeLaws.{Layered, nothing, one, layered, length-front, parts-front, parts-nothing}
 use Rattle.response_reader.specs.Met.{partAt, met}
 use Rattle.response_reader.specs.Responses.{Opened, handles, handlesFrom, KeysAre}
@@ -81,7 +81,7 @@ pub record IsPair (s : List ℕ) (at to : ℕ) : Type 0 where
 pub pair-is : {s : List ℕ} {at to : ℕ} → to ≡ afterPair s at → to ≤ length s → IsPair s at to
 unfolding handlesFrom
 pair-is {s} {at} {to} e h =
-    let g = group-before h pairTag pairFields e in
+    let g = tlv-before h pairTag (reads pairFields) e in
     let i = g .0 in
     let start : ℕ = at + 4 in
     let v : List ℕ = between s start to in
@@ -103,7 +103,7 @@ beyond l s at h = simp (lt-leb _ _ h)
 pairs-end : (s : List ℕ) (at k : ℕ) → at ≡ length s → readsAt (namePairs k) s at ≡ eqb k 0
 pairs-end s at zero e = read-end s at ∙ eq-eqb _ _ e
 pairs-end s at (suc k) e =
-    let p : afterPair s at ≡ nowhere s = past-head pairTag pairFields s at (head-end s at (omega arith)) in
+    let p : afterPair s at ≡ nowhere s = past-head pairTag (reads pairFields) s at (head-end s at (omega arith)) in
     read-group pairTag pairFields (namePairs k) s at ∙ rw p (beyond (namePairs k) s (nowhere s) (omega arith))
     ∙ sym (ne-eqb (suc k) 0 (λ z. omega arith))
 
@@ -242,7 +242,7 @@ module _ (s : List ℕ) (o : Opened (responseTag sign) s) where
   unfolding handlesFrom fieldParts readsAt
   list-keys n e =
       let h : 10 ≤ length s = leb-true _ _ (and-left (leb 10 (length s)) _ (sym (list-reads n) ∙ e)) in
-      let j = field-before h ok (o .past) in
+      let j = tlv-before h (tagOf ok) (obeys (ruleOf ok)) (o .past) .0 in
       let i = in-before (omega (arith, j)) (responseTag sign) (o .inside) in
       rw (parts-met (nameList n) s (both (pairs-plain n .0) refl) e, met-tlv i, met-tlv j)
 

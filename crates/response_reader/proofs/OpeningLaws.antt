@@ -16,13 +16,10 @@ use Rattle.model.proofs.Basics.{split, clash, and-left, and-right, both}
 use Rattle.model.proofs.LayoutLaws.{fits-least, fits-most}
 use Rattle.tlv.specs.Numbers.{numAt}
 use Rattle.tlv.specs.Heads.{headAt}
-use Rattle.tlv.specs.Spans.{span}
 use Rattle.tlv.specs.declared.heads.Head.the-variants.{Tlv as Found}
 use Rattle.tlv.proofs.HeadLaws.{head-tlv}
-use Rattle.fields.specs.Fields.{fieldAt}
-use Rattle.fields.specs.declared.Found.the-variants.{At, Missing}
-use Rattle.layouts.specs.Places.{nowhere, readsAt, afterField, inGroup}
-use Rattle.layouts.proofs.PlaceLaws.{after-found, in-head, read-end, read-field, read-last, reads-front}
+use Rattle.layouts.specs.Places.{nowhere, readsAt, obeys, afterField, inGroup}
+use Rattle.layouts.proofs.PlaceLaws.{past-head, read-end, read-field, read-last, reads-front}
 use Rattle.layouts.proofs.SizeLaws.{Layered, nothing, one, many, length-front}
 use Rattle.response_reader.specs.Responses.{headed, Opened}
 
@@ -199,14 +196,12 @@ module _ {s : List ℕ} (h : Headed s) where
   status-head = head-tlv s 4 (tagOf ok) 2 (sym (h .status)) (sym (h .two)) (h .long)
 
   in-outer : (g : ℕ) → inGroup g s 0 ≡ cond (eqb (numAt 2 s 0) g) 4 (nowhere s)
-  in-outer g = in-head g s 0 outer-head ∙ rw (eq-eqb (length s) (length s) refl) (split (eqb (numAt 2 s 0) g) (λ e. rw e) (λ e. rw e))
+  unfolding inGroup
+  in-outer g = rw (outer-head, eq-eqb (length s) (length s) refl) (split (eqb (numAt 2 s 0) g) (λ e. rw e) (λ e. rw e))
 
   after-status : (ns : List ℕ) → afterField (statusAmong ns) s 4 ≡ cond (fits (statusAmong ns) (statusIn s)) 10 (nowhere s)
-  unfolding fieldAt
-  after-status ns =
-      split (fits (statusAmong ns) (statusIn s))
-      (λ e. rw e (after-found (statusAmong ns) s 4 {o = At (span 8 10)} (rw (status-head, e))))
-      (λ e. rw e (after-found (statusAmong ns) s 4 {o = Missing} (rw (status-head, e))))
+  unfolding fits
+  after-status ns = past-head (tagOf ok) (obeys (ruleOf (statusAmong ns))) s 4 status-head
 
   -- a status alone
   pub alone-reads : (g : ℕ) (ns : List ℕ) → length s ≡ 10

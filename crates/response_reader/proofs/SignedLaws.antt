@@ -10,7 +10,7 @@ use lib.ListN.{length, getD}
 use lib.Dec.{leb, eqb}
 use borrow.Author.Tests.{leb-true, not-true, eq-eqb, ne-eqb}
 use Rattle.model.specs.Lists.{all, any, select, first, distinct}
-use Rattle.model.specs.Tlv.{Field, getInfo, register, sign, kinds, ok, tagOf, signature, certificate, full, surrogate, responseTag, assertionTag, regAssertionTag, authAssertionTag, krdTag, signedTag, fits}
+use Rattle.model.specs.Tlv.{Field, getInfo, register, sign, kinds, ok, tagOf, ruleOf, signature, certificate, full, surrogate, responseTag, assertionTag, regAssertionTag, authAssertionTag, krdTag, signedTag, fits}
 use Rattle.model.specs.Layouts.{Layout, group, reads}
 use Rattle.model.specs.Commands.{statusOnly, info, nameList}
 use Rattle.model.specs.Reader.{Part, holds, asserted, registered, signed, listedKeys, isResponse, Stretch, stretch, isSigned, listLengths}
@@ -21,8 +21,8 @@ use Rattle.tlv.specs.Numbers.{numAt}
 use Rattle.tlv.specs.Spans.{span, noSpan}
 use Rattle.tlv.specs.declared.heads.Span.{Span}
 use Rattle.tlv.proofs.HeadLaws.{IsTlv}
-use Rattle.layouts.specs.Places.{readsAt, inGroup, afterGroup}
-use Rattle.layouts.proofs.PlaceLaws.{then-group, from-front, in-before, field-before, group-before}
+use Rattle.layouts.specs.Places.{readsAt, obeys, inGroup, afterGroup}
+use Rattle.layouts.proofs.PlaceLaws.{then-group, from-front, in-before, tlv-before}
 use Rattle.layouts.proofs.SizeLaws.{lacks-none}
 use Rattle.response_reader.specs.Met.{met, spanOf, signedMet}
 use Rattle.response_reader.specs.Responses.{alone, Opened, Longer, inAssertion}
@@ -98,13 +98,13 @@ signed-there s outer assertion g inner l o n e f =
     let z : ℕ = afterGroup g inner s a in
     let r : readsAt l s z ≡ true = from-front (then-assertion o refl (then-group refl (record { given = refl }))) ∙ e in
     let h : z ≤ length s = leb-true _ _ (and-left (leb z (length s)) _ r) in
-    let i5 : IsTlv s a g (a + 4) z = group-before h g inner refl .0 in
+    let i5 : IsTlv s a g (a + 4) z = tlv-before h g (reads inner) refl .0 in
     let h4 : a ≤ length s = omega (arith, i5) in
     let i4 : IsTlv s b assertion a (length s) = in-before h4 assertion refl in
     let h3 : b ≤ length s = omega (arith, i4) in
     let i3 : IsTlv s 10 assertionTag b (length s) = in-before h3 assertionTag refl in
     let h2 : 10 ≤ length s = omega arith in
-    let i2 : IsTlv s 4 (tagOf ok) 8 10 = field-before h2 ok (o .past) in
+    let i2 : IsTlv s 4 (tagOf ok) 8 10 = tlv-before h2 (tagOf ok) (obeys (ruleOf ok)) (o .past) .0 in
     let h1 : 4 ≤ length s = omega arith in
     let i1 : IsTlv s 0 outer 4 (length s) = in-before h1 outer (o .inside) in
     let x : b ≡ 14 = omega (arith, i3) in

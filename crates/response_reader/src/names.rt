@@ -1,5 +1,4 @@
-use layouts::Group;
-use layouts::after_group;
+use layouts::after_pair;
 use tlv::rows::all_distinct;
 ghost use mathlib.Core.Path.{_≡_};
 ghost use mathlib.Core.Bool.{_&&_};
@@ -28,7 +27,7 @@ fn keys_from(s: &[u8], from: usize) -> Keys
         if place == s.len() {
             return Keys { places, len };
         }
-        let end = after_group(s, place, Group::Pair);
+        let end = after_pair(s, place);
         if s.len() < end {
             return Keys { places, len: 0 };
         }

@@ -1,9 +1,10 @@
 use crate::names::is_name_list;
-use fields::Field;
+use fields::sizes;
 use fields::tags;
-use layouts::Group;
-use layouts::after;
-use layouts::after_group;
+use layouts::after_fixed;
+use layouts::after_krd;
+use layouts::after_signed;
+use layouts::after_sized;
 use layouts::enter;
 use tlv::heads::NO_SPAN;
 use tlv::heads::Span;
@@ -20,8 +21,7 @@ ghost use Rattle.model.specs.Layouts.{end, field, group, fields, reads};
 ghost use Rattle.model.specs.Commands.{statuses, info};
 ghost use Rattle.model.specs.Reader.{registered, signed, isResponse};
 ghost use Rattle.tlv.specs.Spans.{noSpan};
-ghost use Rattle.layouts.specs.Places.{readsAt, afterGroup};
-ghost use Rattle.layouts.specs.Groups.{groupTag, groupInside};
+ghost use Rattle.layouts.specs.Places.{readsAt};
 ghost use Rattle.response_reader.specs.Responses.{Opened, Longer, inAssertion, headed, alone};
 ghost use Rattle.response_reader.specs.Shapes.{shapeIf, signedAt, shapeOf, isShape, OpeningIs};
 ghost use Rattle.response_reader.specs.declared.shapes.Shape.the-variants.{Response};
@@ -31,15 +31,15 @@ fn is_info(s: &[u8]) -> bool
     requires { ⌜ Opened (responseTag getInfo) (now s) ⌝ }
     ensures { λ r. ⌜ r ≡ reads info (now (s .entry)) ⌝ }
 {
-    let a3 = after(s, 10, Field::ApiVersion);
+    let a3 = after_fixed(s, 10, sizes::API_VERSION, b"\x01");
     let a4 = enter(s, a3, tags::AUTHENTICATOR_INFO);
-    let a5 = after(s, a4, Field::Index);
-    let a6 = after(s, a5, Field::Aaid);
-    let a7 = after(s, a6, Field::Metadata);
-    let a8 = after(s, a7, Field::ContentType);
-    let a9 = after(s, a8, Field::AssertionScheme);
-    let a10 = after(s, a9, Field::FullType);
-    let end = after(s, a10, Field::SurrogateType);
+    let a5 = after_fixed(s, a4, sizes::INDEX, b"\x00");
+    let a6 = after_sized(s, a5, sizes::AAID);
+    let a7 = after_sized(s, a6, sizes::METADATA);
+    let a8 = after_fixed(s, a7, sizes::CONTENT_TYPE, b"text/plain");
+    let a9 = after_fixed(s, a8, sizes::ASSERTION_SCHEME, b"UAFV1TLV");
+    let a10 = after_fixed(s, a9, sizes::ATTESTATION_TYPE, b"\x07\x3E");
+    let end = after_fixed(s, a10, sizes::ATTESTATION_TYPE, b"\x08\x3E");
     end == s.len()
 }
 
@@ -56,8 +56,8 @@ fn is_full(s: &[u8], at: usize) -> bool
     ensures { λ r. ⌜ r ≡ readsAt (group full (fields (signature ∷ certificate ∷ [])) end) (now (s .entry)) at ⌝ }
 {
     let a1 = enter(s, at, tags::BASIC_FULL);
-    let a2 = after(s, a1, Field::Signature);
-    let end = after(s, a2, Field::Certificate);
+    let a2 = after_sized(s, a1, sizes::SIGNATURE);
+    let end = after_sized(s, a2, sizes::CERTIFICATE);
     end == s.len()
 }
 
@@ -66,7 +66,7 @@ fn is_surrogate(s: &[u8], at: usize) -> bool
     ensures { λ r. ⌜ r ≡ readsAt (group surrogate (fields (signature ∷ [])) end) (now (s .entry)) at ⌝ }
 {
     let a1 = enter(s, at, tags::BASIC_SURROGATE);
-    let end = after(s, a1, Field::Signature);
+    let end = after_sized(s, a1, sizes::SIGNATURE);
     end == s.len()
 }
 
@@ -76,32 +76,22 @@ fn is_registered(s: &[u8]) -> bool
     ensures { λ r. ⌜ r ≡ (reads (registered full (signature ∷ certificate ∷ [])) (now (s .entry)) || reads (registered surrogate (signature ∷ [])) (now (s .entry))) ⌝ }
 {
     let a1 = assertion_in(s, tags::REG_ASSERTION);
-    let a2 = after_group(s, a1, Group::Krd);
+    let a2 = after_krd(s, a1);
     if is_full(s, a2) {
         return true;
     }
     is_surrogate(s, a2)
 }
 
-// What the assertion of a Sign holds: the draft and its signature.
-fn is_signed_as(s: &[u8], at: usize, g: Group) -> bool
-    ensures { λ r. ⌜ r ≡ readsAt (field signature end) (now (s .entry)) (afterGroup (groupTag g) (groupInside g) (now (s .entry)) at) ⌝ }
-{
-    let a = after_group(s, at, g);
-    let end = after(s, a, Field::Signature);
-    end == s.len()
-}
-
-// A completed Sign.
+// A completed Sign: the assertion holds SIGNED_DATA, with content or without, and its signature.
 fn is_signed(s: &[u8]) -> bool
     requires { ⌜ Opened (responseTag sign) (now s) ⌝ }
     ensures { λ r. ⌜ r ≡ (reads (signed true) (now (s .entry)) || reads (signed false) (now (s .entry))) ⌝ }
 {
-    let a = assertion_in(s, tags::AUTH_ASSERTION);
-    if is_signed_as(s, a, Group::SignedContent) {
-        return true;
-    }
-    is_signed_as(s, a, Group::SignedData)
+    let a1 = assertion_in(s, tags::AUTH_ASSERTION);
+    let a2 = after_signed(s, a1);
+    let end = after_sized(s, a2, sizes::SIGNATURE);
+    end == s.len()
 }
 
 // What a stretch is: no response; or a response, whose signed structure with its header is this part, which is empty where it has none.

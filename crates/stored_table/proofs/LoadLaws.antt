@@ -28,7 +28,7 @@ use Rattle.tlv.specs.declared.heads.Head.{Head}
 use Rattle.tlv.specs.declared.heads.Head.the-variants.{Tlv as Found, Bad, End}
 use Rattle.tlv.proofs.HeadLaws.{IsTlv, tlv-is, end-is, head-end, run-end, run-bad, run-tlv, length-part}
 use Rattle.layouts.specs.Places.{afterGroup}
-use Rattle.layouts.proofs.PlaceLaws.{past-head, group-before}
+use Rattle.layouts.proofs.PlaceLaws.{past-head, tlv-before}
 use Rattle.stored_table.specs.Stored.{mixedAt, tableIn, starts}
 use Rattle.stored_table.specs.Index.{isStored, fewDistinct, IndexIs}
 use Rattle.stored_table.proofs.IndexLaws.{Located, located, located-stand, located-keys, located-mixed, stand-within}
@@ -203,12 +203,12 @@ module _ {s places : List ℕ} {n place : ℕ} (p : Loading s places n place) wh
           (λ tag start stop d us. let v = between s start stop in
           let i = tlv-is s place tag start stop d in
           split (eqb tag pairTag && reads recordFields v)
-          (λ b. let q : to ≡ stop = e ∙ past-head pairTag recordFields s place d ∙ rw b in absurd (omega (arith, i)))
+          (λ b. let q : to ≡ stop = e ∙ past-head pairTag (reads recordFields) s place d ∙ rw b in absurd (omega (arith, i)))
           (λ b. rw (not-all (p .run) (tlv tag v) us (stored-is tag v ∙ b))))
 
       pub load-more : (n ≡ 32 → ⊥) → to ≤ length s → Loading s (set places n place) (n + 1) to
       load-more k l =
-          let g = group-before l pairTag recordFields e in
+          let g = tlv-before l pairTag (reads recordFields) e in
           let i = g .0 in
           let v : List ℕ = between s (place + 4) to in
           let c : Tlv = tlv pairTag v in

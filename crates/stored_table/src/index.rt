@@ -2,8 +2,7 @@ use crate::records::KEY_ID;
 use crate::records::MAX_OWN;
 use crate::records::MAX_RECORDS;
 use crate::records::MIXED;
-use layouts::Group;
-use layouts::after_group;
+use layouts::after_record;
 use tlv::rows::all_distinct;
 use tlv::rows::each_few;
 ghost use mathlib.Core.Path.{_≡_};
@@ -39,7 +38,7 @@ pub fn index_of(table: &[u8], places: &mut [usize; MAX_RECORDS]) -> Index
         if len == MAX_RECORDS {
             return Index { ok: false, len: 0 };
         }
-        let end = after_group(table, at, Group::Record);
+        let end = after_record(table, at);
         if table.len() < end {
             return Index { ok: false, len: 0 };
         }

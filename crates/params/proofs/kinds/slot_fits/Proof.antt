@@ -17,21 +17,21 @@ use Rattle.params.proofs.kinds.slot_fits.Tie as tie
 sized : (c : tie.Else2) → let a = c .before .before .before .before .before .before .args in
     fits (slotField (a .slot)) (now (a .v)) ≡ ruleOf (slotField (a .slot)) .allowed (now (a .v))
 sized c =
-    let l = c .before .before .before .before .lengths-of .ensures in
+    let l = c .before .before .before .before .size-of .ensures in
     fits-else _ _ (l .0) (l .1) (c .before .before .if1 .left) (c .if2 .left)
 
 -- an index has one byte
 one : (c : tie.Then3) → length (now (c .before .before .before .before .before .before .before .args .v)) ≡ 1
 one c =
-    let l = c .before .before .before .before .before .lengths-of .ensures in
+    let l = c .before .before .before .before .before .size-of .ensures in
     omega (arith, rw (c .if3 .taken) at (l .0), rw (c .if3 .taken) at (l .1), c .before .before .before .if1 .left, c .before .if2 .left)
 
 returns : tie.Need-returns
-returns c = sym (fits-short _ _ (c .before .before .lengths-of .ensures .0) (c .if1 .taken))
+returns c = sym (fits-short _ _ (c .before .before .size-of .ensures .0) (c .if1 .taken))
 
 returns-2 : tie.Need-returns-2
 returns-2 c =
-    let l = c .before .before .before .before .lengths-of .ensures in
+    let l = c .before .before .before .before .size-of .ensures in
     sym (fits-long _ _ (l .0) (l .1) (c .before .before .if1 .left) (c .if2 .taken))
 
 shared-slice-read-result : tie.Need-shared-slice-read-result

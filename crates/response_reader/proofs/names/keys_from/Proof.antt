@@ -21,15 +21,15 @@ returns c = keyed-all (c .before .before .loop .inv) (c .if1 .taken)
 
 returns-2 : tie.Need-returns-2 Inv-loop μ-loop
 returns-2 c =
-    keyed-bad (c .before .before .before .before .loop .inv) (c .before .before .if1 .left) (c .before .after-group .ensures) (c .if2 .taken)
+    keyed-bad (c .before .before .before .before .loop .inv) (c .before .before .if1 .left) (c .before .after-pair .ensures) (c .if2 .taken)
 
 sub-places : tie.Need-sub-places Inv-loop μ-loop
-sub-places c = omega (arith, pair-is (c .before .after-group .ensures) (c .if2 .left))
+sub-places c = omega (arith, pair-is (c .before .after-pair .ensures) (c .if2 .left))
 
 loop-again : tie.Need-loop-again Inv-loop μ-loop
 loop-again c =
     let l = c .before .before .before .before in
-    keyed-next (l .loop .inv) (c .before .before .if1 .left) (c .before .after-group .ensures) (c .if2 .left)
+    keyed-next (l .loop .inv) (c .before .before .if1 .left) (c .before .after-pair .ensures) (c .if2 .left)
     (c .before .before .before .loop-test .taken)
 
 returns-3 : tie.Need-returns-3 Inv-loop μ-loop

@@ -5,7 +5,7 @@ use Rattle.response_reader.proofs.shapes.is_full.Statement.{statement}
 use Rattle.response_reader.proofs.shapes.is_full.Tie as tie
 
 returns : tie.Need-returns
-returns c = (then-last (c .before .before .enter .ensures) (then-field (c .before .after .ensures) (then-field (c .after2 .ensures) then-end))) .given
+returns c = (then-last (c .before .before .enter .ensures) (then-field (c .before .after-sized .ensures) (then-field (c .after-sized2 .ensures) then-end))) .given
 
 pub is-full-spec : {M : Type 1} → statement M
 is-full-spec = tie.close (tie.spec (λ c κs. search needs) (λ c κs. search needs) (λ c κs. search needs) returns)

@@ -22,12 +22,12 @@ returns c = none-are _ (load-full (c .before .before .loop .inv) (c .before .loo
 returns-2 : tie.Need-returns-2 Inv-loop μ-loop
 returns-2 c =
     let l = c .before .before .before in
-    none-are _ (load-bad (l .before .loop .inv) (l .loop-test .taken) (c .before .after-group .ensures) (c .if2 .taken))
+    none-are _ (load-bad (l .before .loop .inv) (l .loop-test .taken) (c .before .after-record .ensures) (c .if2 .taken))
 
 loop-again : tie.Need-loop-again Inv-loop μ-loop
 loop-again c =
     let l = c .before .before .before in
-    load-more (l .before .loop .inv) (l .loop-test .taken) (c .before .after-group .ensures) (c .before .before .if1 .left) (c .if2 .left)
+    load-more (l .before .loop .inv) (l .loop-test .taken) (c .before .after-record .ensures) (c .before .before .if1 .left) (c .if2 .left)
 
 -- all are read, and they are a table if their rows obey the rules
 loaded : (c : tie.After-all2 Inv-loop μ-loop) → let l = c .before .before .before .loop in
