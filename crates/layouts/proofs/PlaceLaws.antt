@@ -175,6 +175,11 @@ module _ {s : List ℕ} where
     pub then-group : {t : ℕ} {inner : Layout} → next ≡ afterGroup t inner s at → Gives l s next r → Gives (group t inner l) s at r
     then-group {t} {inner} e g = record { given = g .given ∙ rw e (sym (read-group t inner l s at)) }
 
+  -- past the end nothing is read
+  pub then-lost : {l : Layout} {at : ℕ} → length s < at → Gives l s at false
+  unfolding readsAt
+  then-lost h = record { given = sym (simp (lt-leb _ _ h)) }
+
   -- SIGNED_DATA, with content or without
   pub then-signed : {l : Layout} {next : ℕ} {r : Bool} (at : ℕ) → next ≡ afterSigned s at → Gives l s next r
       → r ≡ (readsAt (signedData true l) s at || readsAt (signedData false l) s at)

@@ -28,7 +28,6 @@ use Rattle.layouts.proofs.PlaceLaws.{past-head, read-end, read-group, then-fiel
 use Rattle.layouts.proofs.SizeLaws.{Layered, nothing, one, layered, length-front, parts-front, parts-nothing}
 use Rattle.response_reader.specs.Met.{partAt, met}
 use Rattle.response_reader.specs.Responses.{Opened, handles, handlesFrom, KeysAre}
-use Rattle.response_reader.specs.declared.names.Keys.{Keys}
 use Rattle.response_reader.proofs.MetLaws.{met-end, met-tlv, walked, parts-met}
 
 -- ---- what a pair holds
@@ -159,12 +158,13 @@ keyed-none s from at h =
     }
 
 -- a stretch that at most eight pairs do not fill
-not-keyed : {s at : List ℕ} {from : ℕ} → ((m : ℕ) → m < 8 → readsAt (namePairs (suc m)) s from ≡ false)
-    → KeysAre s from (record { places = at; len = 0 })
-not-keyed {s} f =
+not-keyed : {s at : List ℕ} {from : ℕ} → length at ≡ 8 → ((m : ℕ) → m < 8 → readsAt (namePairs (suc m)) s from ≡ false)
+    → KeysAre s from at 0
+not-keyed {s} z f =
     record {
       few = omega arith;
-      number = λ m h. f m h ∙ sym (ne-eqb (suc m) 0 (λ z. omega arith));
+      sized = z;
+      number = λ m h. f m h ∙ sym (ne-eqb (suc m) 0 (λ e. omega arith));
       within = none-within s;
       keys = λ h. absurd (omega arith);
     }
@@ -190,11 +190,12 @@ module _ {s at : List ℕ} {from n place : ℕ} (i : Keyed s from at n place) wh
       }
 
   -- all of them
-  pub keyed-all : place ≡ length s → KeysAre s from (record { places = at; len = n })
+  pub keyed-all : place ≡ length s → KeysAre s from at n
   unfolding handlesFrom
   keyed-all e =
       record {
         few = i .few;
+        sized = i .sized;
         number = λ m h. i .number (suc m) ∙ rw (pairs-end s place (suc m - n) e) (exactly n (suc m));
         within = i .within;
         keys =
@@ -205,13 +206,13 @@ module _ {s at : List ℕ} {from n place : ℕ} (i : Keyed s from at n place) wh
 
   -- something else than pairs
   pub keyed-bad : {to : ℕ} → (place ≡ length s → ⊥) → to ≡ afterPair s place → length s < to
-      → KeysAre s from (record { places = at; len = 0 })
-  keyed-bad h e l = not-keyed (λ m k. i .number (suc m) ∙ rw (pairs-bad s place h e l (suc m - n)) (and-false (leb n (suc m))))
+      → KeysAre s from at 0
+  keyed-bad h e l = not-keyed (i .sized) (λ m k. i .number (suc m) ∙ rw (pairs-bad s place h e l (suc m - n)) (and-false (leb n (suc m))))
 
   -- more than eight
-  pub keyed-more : 8 ≤ n → (place ≡ length s → ⊥) → KeysAre s from (record { places = at; len = 0 })
+  pub keyed-more : 8 ≤ n → (place ≡ length s → ⊥) → KeysAre s from at 0
   keyed-more k h =
-      not-keyed
+      not-keyed (i .sized)
       (λ m l. let x : suc m - n ≡ 0 = omega arith in
       i .number (suc m) ∙ rw (x, read-end s place, ne-eqb place (length s) h) (and-false (leb n (suc m))))
 
@@ -246,19 +247,19 @@ module _ (s : List ℕ) (o : Opened (responseTag sign) s) where
       let i = in-before (omega (arith, j)) (responseTag sign) (o .inside) in
       rw (parts-met (nameList n) s (both (pairs-plain n .0) refl) e, met-tlv i, met-tlv j)
 
-  module _ {r : Keys} (k : KeysAre s 10 r) where
-    list-is : (m : ℕ) → 2 ≤ m → m < 9 → reads (nameList m) s ≡ eqb m (r .len)
+  module _ {at : List ℕ} {n : ℕ} (k : KeysAre s 10 at n) where
+    list-is : (m : ℕ) → 2 ≤ m → m < 9 → reads (nameList m) s ≡ eqb m n
     list-is zero l u = absurd (omega arith)
     list-is (suc m) l u = list-reads (suc m) ∙ k .number m (omega arith)
 
-    list-any : any (λ n. reads (nameList n) s) listLengths ≡ leb 2 (r .len)
-    list-any = any-run (λ n. reads (nameList n) s) (r .len) 2 7 (omega (arith, k .few)) list-is
+    list-any : any (λ m. reads (nameList m) s) listLengths ≡ leb 2 n
+    list-any = any-run (λ m. reads (nameList m) s) n 2 7 (omega (arith, k .few)) list-is
 
     -- where `two` says whether there are two names or more
-    pub list-distinct : (two : Bool) → leb 2 (r .len) ≡ two
-        → (any (λ n. reads (nameList n) s) listLengths && distinct (listedKeys s)) ≡ (two && distinct (rows 0 (take (r .len) (r .places)) s))
+    pub list-distinct : (two : Bool) → leb 2 n ≡ two
+        → (any (λ m. reads (nameList m) s) listLengths && distinct (listedKeys s)) ≡ (two && distinct (rows 0 (take n at) s))
     list-distinct true e =
-        let h : 2 ≤ r .len = leb-true _ _ e in
-        let y : reads (nameList (r .len)) s ≡ true = list-is (r .len) h (omega (arith, k .few)) ∙ eq-eqb (r .len) (r .len) refl in
-        rw (list-any, e, list-keys (r .len) y, k .keys (omega arith))
+        let h : 2 ≤ n = leb-true _ _ e in
+        let y : reads (nameList n) s ≡ true = list-is n h (omega (arith, k .few)) ∙ eq-eqb n n refl in
+        rw (list-any, e, list-keys n y, k .keys (omega arith))
     list-distinct false e = rw (list-any, e)

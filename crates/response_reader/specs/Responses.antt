@@ -13,7 +13,6 @@ use Rattle.tlv.specs.Numbers.{numAt}
 use Rattle.tlv.specs.Rows.{rows, Within}
 use Rattle.layouts.specs.Places.{readsAt, afterField, inGroup}
 use Rattle.response_reader.specs.Met.{met}
-use Rattle.response_reader.specs.declared.names.Keys.{Keys}
 
 -- every response starts with the header of its outer TLV, which ends with the stretch, and the header of a status; tag and status are open
 unfoldable pub headed : List ℕ → Bool
@@ -46,9 +45,10 @@ handles ps = select (λ p. isHandle (p .tag)) (select (λ p. not (holds (p .tag)
 unfoldable pub handlesFrom : List ℕ → ℕ → List (List ℕ)
 handlesFrom s at = map (cut s) (handles (met s at))
 
--- from a place on there are this many pairs and nothing else, with these KeyIDs; the number is 0 where there is anything else
-pub record KeysAre (s : List ℕ) (from : ℕ) (r : Keys) : Type 0 where
-  pub few : r .len ≤ 8
-  pub number : (n : ℕ) → n < 8 → readsAt (namePairs (suc n)) s from ≡ eqb (suc n) (r .len)
-  pub within : Within 0 (take (r .len) (r .places)) s
-  pub keys : 0 < r .len → handlesFrom s from ≡ rows 0 (take (r .len) (r .places)) s
+-- from a place on there are n pairs and nothing else, with the KeyIDs at the first n of these places; n is 0 where there is anything else
+pub record KeysAre (s : List ℕ) (from : ℕ) (places : List ℕ) (n : ℕ) : Type 0 where
+  pub few : n ≤ 8
+  pub sized : length places ≡ 8
+  pub number : (m : ℕ) → m < 8 → readsAt (namePairs (suc m)) s from ≡ eqb (suc m) n
+  pub within : Within 0 (take n places) s
+  pub keys : 0 < n → handlesFrom s from ≡ rows 0 (take n places) s

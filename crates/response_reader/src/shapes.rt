@@ -89,6 +89,9 @@ fn is_signed(s: &[u8]) -> bool
     ensures { λ r. ⌜ r ≡ (reads (signed true) (now (s .entry)) || reads (signed false) (now (s .entry))) ⌝ }
 {
     let a1 = assertion_in(s, tags::AUTH_ASSERTION);
+    if s.len() < a1 {
+        return false;
+    }
     let a2 = after_signed(s, a1);
     let end = after_sized(s, a2, sizes::SIGNATURE);
     end == s.len()

@@ -183,7 +183,7 @@ pub fn each_few(s: &[u8], places: &[usize], off: usize, most: usize) -> bool
     requires { ⌜ Within off (now places) (now s) ⌝ }
     ensures { λ r. ⌜ r ≡ eachFew most (rows off (now (places .entry)) (now (s .entry))) ⌝ }
 {
-    if 8 < places.len() {
+    if 4 < places.len() {
         if places.len() <= 32 {
             return few_by_marks(s, places, off, most);
         }
