@@ -159,6 +159,10 @@ module _ (off : ℕ) (at s : List ℕ) where
   pub length-marks : length (map mark (rows off at s)) ≡ length at
   length-marks = length-map (rows off at s) mark ∙ length-rows
 
+  -- no more rows than may stand there
+  pub few-all : (most : ℕ) → length at ≤ most → true ≡ eachFew most (rows off at s)
+  few-all most h = sym (few-from most (rows off at s) ∙ few-short most (rows off at s) (omega (arith, length-rows)))
+
   module _ (i : ℕ) where
     -- past the last row
     pub rows-end : length at ≤ i → drop i (rows off at s) ≡ []

@@ -179,7 +179,7 @@ fn few_by_marks(s: &[u8], places: &[usize], off: usize, most: usize) -> bool
 }
 
 // Whether each row stands there at most `most` times. The marks pay where there are more than a few rows; there is room for 32.
-pub fn each_few(s: &[u8], places: &[usize], off: usize, most: usize) -> bool
+fn few_among(s: &[u8], places: &[usize], off: usize, most: usize) -> bool
     requires { ⌜ Within off (now places) (now s) ⌝ }
     ensures { λ r. ⌜ r ≡ eachFew most (rows off (now (places .entry)) (now (s .entry))) ⌝ }
 {
@@ -191,10 +191,25 @@ pub fn each_few(s: &[u8], places: &[usize], off: usize, most: usize) -> bool
     few_by_rows(s, places, off, most)
 }
 
+// The same. Nothing is called where there are no more rows than that: `few_among`, which two functions call, stays a function of its own, and these
+// two become parts of their callers.
+pub fn each_few(s: &[u8], places: &[usize], off: usize, most: usize) -> bool
+    requires { ⌜ Within off (now places) (now s) ⌝ }
+    ensures { λ r. ⌜ r ≡ eachFew most (rows off (now (places .entry)) (now (s .entry))) ⌝ }
+{
+    if places.len() <= most {
+        return true;
+    }
+    few_among(s, places, off, most)
+}
+
 // Whether no two rows are the same: each stands there at most once.
 pub fn all_distinct(s: &[u8], places: &[usize], off: usize) -> bool
     requires { ⌜ Within off (now places) (now s) ⌝ }
     ensures { λ r. ⌜ r ≡ distinct (rows off (now (places .entry)) (now (s .entry))) ⌝ }
 {
-    each_few(s, places, off, 1)
+    if places.len() <= 1 {
+        return true;
+    }
+    few_among(s, places, off, 1)
 }
