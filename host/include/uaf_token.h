@@ -14,8 +14,9 @@
  * Results. An entry gives 0, or the number of one refusal. After a refusal no byte, number or array that was lent has changed. After 0 the bytes
  * of an output beyond the length written are as they were. Entries keep nothing between calls, so they may run at the same time.
  *
- * What they need. The archive is for x86-64, ELF, the System V calling convention. Of the C library it needs memcpy and nothing else; it has no
- * data that is written, uses no heap and makes no system call. A command takes about 3 KB of stack, completion and reader about 2. */
+ * What they need. The archive is for x86-64, ELF, the System V calling convention. It calls no function outside itself, not even of the C
+ * library; it has no data that is written, uses no heap and makes no system call. A command takes about 2 KB of stack, completion and reader
+ * about 1. */
 #ifndef UAF_TOKEN_H
 #define UAF_TOKEN_H
 
