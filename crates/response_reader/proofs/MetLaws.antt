@@ -8,7 +8,7 @@ use native.Mathlib.Omega.{arith}
 use lib.ListN.{length, take, drop, length-append, length-drop}
 use lib.Seq.{drop-drop, drop-append-seam}
 use lib.Dec.{leb}
-use borrow.Author.Tests.{leb-true, leb-false, le-leb, lt-leb}
+use borrow.Author.Tests.{le-leb}
 use Rattle.model.specs.Tlv.{num, Tlv}
 use Rattle.model.specs.Layouts.{Layout, reads}
 use Rattle.model.specs.Reader.{holds, partsAt, parts}
@@ -16,8 +16,8 @@ use Rattle.model.proofs.Basics.{split, clash}
 use Rattle.model.proofs.PartLaws.{honest}
 use Rattle.tlv.specs.Numbers.{numAt}
 use Rattle.tlv.specs.Heads.{headAt}
-use Rattle.tlv.specs.declared.heads.Head.the-variants.{Bad, End}
-use Rattle.tlv.proofs.HeadLaws.{IsTlv, bad-is, end-is}
+use Rattle.tlv.specs.declared.heads.Head.the-variants.{End}
+use Rattle.tlv.proofs.HeadLaws.{IsTlv, end-is}
 use Rattle.response_reader.specs.Met.{partAt, metPast, met}
 use Rattle.layouts.proofs.SizeLaws.{Front, Layered, nothing, one, many, layered, length-front, parts-front, parts-nothing, honest-field, honest-group}
 
@@ -57,16 +57,6 @@ met-place s at h =
 pub met-end : (s : List ℕ) (at : ℕ) → headAt s at ≡ End → met s at ≡ []
 unfolding met
 met-end s at e = met-few at (drop at s) (simp length-drop (omega (arith, end-is s at e)))
-
-pub met-bad : (s : List ℕ) (at : ℕ) → headAt s at ≡ Bad → met s at ≡ []
-unfolding met
-met-bad s at e =
-    let b = bad-is s at e in
-    let n : ℕ = numAt 2 s (at + 2) in
-    split (leb (at + 4) (length s))
-    (λ h. let k : at + 4 ≤ length s = leb-true _ _ h in
-    met-place s at k ∙ rw (lt-leb n (length (drop (at + 4) s)) (simp length-drop (omega arith))))
-    (λ h. let k : length s < at + 4 = leb-false _ _ h in met-few at (drop at s) (simp length-drop (omega arith)))
 
 pub met-tlv : {s : List ℕ} {at tag start end : ℕ} → IsTlv s at tag start end
     → met s at ≡ partAt tag start (end - start) ∷ met s (cond (holds tag) start end)

@@ -1,7 +1,7 @@
 -- Which layouts of responses can read a stretch: by how its shapes are read from place to place, by its length, its outer tag and its status, and
 -- by its key handles.
 -- Assumes nothing.
-use mathlib.Core.Path.{_≡_, refl, ap, subst, _∙_}
+use mathlib.Core.Path.{_≡_, refl, sym, ap, subst, _∙_}
 use mathlib.Core.Bool.{Bool, true, false, not, _&&_, _||_, or-false}
 use mathlib.Core.List.{List, [], _∷_, _++_, map}
 use Prim.Native.Nat.{ℕ, _≤_, _<_}
@@ -56,7 +56,7 @@ anyReads s ls = any (λ l. reads l s) ls
 
 -- ---- the outer tag
 
-layered-tag : {l : Layout} {s : List ℕ} → 4 ≤ length s → Layered l s → numAt 2 s 0 ≡ outerTag l
+pub layered-tag : {l : Layout} {s : List ℕ} → 4 ≤ length s → Layered l s → numAt 2 s 0 ≡ outerTag l
 unfolding numAt
 layered-tag h nothing = absurd (omega arith)
 layered-tag h (one p e f r) = rw (p .spelled) (p .tag-is ∙ e)
@@ -115,6 +115,12 @@ unfolding isResponse
 response-read q s a e =
     let (l, m, r) = any-found (λ l. reads l s) responses (and-left (any (λ l. reads l s) responses) _ e) in
     (l, all-member q m a, r)
+
+-- where only layouts that pass a test can read a response, one of them does
+pub response-among : (q : Layout → Bool) (s : List ℕ) → ((l : Layout) → reads l s ≡ true → q l ≡ true) → isResponse s ≡ true
+    → anyReads s (select q responses) ≡ true
+unfolding isResponse
+response-among q s f e = sym (any-narrow (λ l. reads l s) q f responses) ∙ and-left (anyReads s responses) _ e
 
 pub response-headed : (s : List ℕ) → isResponse s ≡ true → headed s ≡ true
 response-headed s e = let (l, k, r) = response-read answers s refl e in answered-headed (layered l s r) k

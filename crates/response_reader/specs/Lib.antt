@@ -3,3 +3,4 @@ pub mod Met
 pub mod Responses
 pub mod Shapes
 pub mod Readings
+pub mod Laid

@@ -1,6 +1,6 @@
 -- The TLVs of a stretch in the order in which one walk meets them: into each that holds others, past each that does not.
 use Prim.Native.Nat.{ℕ, zero, suc, _+_}
-use mathlib.Core.Bool.{not, cond}
+use mathlib.Core.Bool.{cond}
 use mathlib.Core.List.{List, [], _∷_}
 use lib.ListN.{length, drop}
 use lib.Dec.{leb}
@@ -30,10 +30,6 @@ metPast (suc k) at (b ∷ s) = metPast k (at + 1) s
 -- from a place of a stretch on
 unfoldable pub met : List ℕ → ℕ → List Part
 met s at = metPast 0 at (drop at s)
-
--- the TLVs met that hold no other
-abbrev pub fieldsMet : List ℕ → List Part
-fieldsMet s = select (λ p. not (holds (p .tag))) (met s 0)
 
 -- a stretch of the model as a part
 abbrev pub spanOf : Stretch → Span

@@ -1,63 +1,229 @@
 use crate::shapes::is_response;
 use fields::refusals::NOT_WRITTEN;
 use fields::tags;
-use tlv::heads::COMPOSITE;
-use tlv::heads::Head;
 use tlv::numbers::get16;
-use tlv::walk::tlv_at;
 ghost use mathlib.Core.Path.{_≡_};
-ghost use Rattle.model.specs.Reader.{holds, readResponse};
-ghost use Rattle.response_reader.specs.Met.{fieldsMet};
+ghost use mathlib.Core.Bool.{true, false, _||_};
+ghost use mathlib.Core.List.{[], _∷_};
+ghost use Rattle.model.specs.Lists.{any};
+ghost use Rattle.model.specs.Tlv.{signature, certificate, full, surrogate};
+ghost use Rattle.model.specs.Layouts.{reads};
+ghost use Rattle.model.specs.Commands.{nameList};
+ghost use Rattle.model.specs.Reader.{registered, signed, listLengths, fieldParts, isResponse, readResponse};
 ghost use Rattle.response_reader.specs.Readings.{columns, partsOf, left, readingOf};
+ghost use Rattle.response_reader.specs.Laid.{statusRow, infoRows};
 
 // The most fields that a response has.
 pub const MOST_FIELDS: usize = 17;
 
-// Whether a TLV with this tag holds others: a composite does, and so does AUTHENTICATOR_ASSERTION.
-fn holds_others(tag: usize) -> bool
-    ensures { λ r. ⌜ r ≡ holds tag ⌝ }
+// The tags of the fields of GetInfo's response, of a completed registration up to its signature and of a completed Sign.
+const INFO_TAGS: [usize; MOST_FIELDS] = [
+    tags::STATUS_CODE,
+    tags::API_VERSION,
+    tags::AUTHENTICATOR_INDEX,
+    tags::AAID,
+    tags::METADATA,
+    tags::TC_DISPLAY_CONTENT_TYPE,
+    tags::ASSERTION_SCHEME,
+    tags::ATTESTATION_TYPE,
+    tags::ATTESTATION_TYPE,
+    0,
+    0,
+    0,
+    0,
+    0,
+    0,
+    0,
+    0,
+];
+
+const REGISTERED_TAGS: [usize; MOST_FIELDS] = [
+    tags::STATUS_CODE,
+    tags::AAID,
+    tags::ASSERTION_INFO,
+    tags::FINAL_CHALLENGE_HASH,
+    tags::KEYID,
+    tags::COUNTERS,
+    tags::PUB_KEY,
+    tags::SIGNATURE,
+    0,
+    0,
+    0,
+    0,
+    0,
+    0,
+    0,
+    0,
+    0,
+];
+
+const SIGNED_TAGS: [usize; MOST_FIELDS] = [
+    tags::STATUS_CODE,
+    tags::AAID,
+    tags::ASSERTION_INFO,
+    tags::NONCE,
+    tags::FINAL_CHALLENGE_HASH,
+    tags::TRANSACTION_CONTENT_HASH,
+    tags::KEYID,
+    tags::COUNTERS,
+    tags::SIGNATURE,
+    0,
+    0,
+    0,
+    0,
+    0,
+    0,
+    0,
+    0,
+];
+
+// The columns of a status alone.
+fn status_field(
+    tags: &mut [usize; MOST_FIELDS],
+    places: &mut [usize; MOST_FIELDS],
+    lengths: &mut [usize; MOST_FIELDS],
+) -> usize
+    ensures { λ r. ⌜ columns (now (tags .exit)) (now (places .exit)) (now (lengths .exit)) r ≡ partsOf (statusRow ∷ []) ⌝ }
 {
-    if tag / COMPOSITE % 2 == 1 {
-        return true;
-    }
-    tag == tags::AUTHENTICATOR_ASSERTION
+    *tags = [0usize; MOST_FIELDS];
+    *places = [0usize; MOST_FIELDS];
+    *lengths = [0usize; MOST_FIELDS];
+    tags[0] = tags::STATUS_CODE;
+    places[0] = 8;
+    lengths[0] = 2;
+    1
 }
 
-// Of each of the first 17 TLVs of a stretch that hold no other the tag, the value's place and the value's length, and their number. Entries past
-// it are 0.
+// The columns of GetInfo's response. Each of its fields has one length, and so no byte is looked at.
+fn info_fields(
+    tags: &mut [usize; MOST_FIELDS],
+    places: &mut [usize; MOST_FIELDS],
+    lengths: &mut [usize; MOST_FIELDS],
+) -> usize
+    ensures { λ r. ⌜ columns (now (tags .exit)) (now (places .exit)) (now (lengths .exit)) r ≡ partsOf infoRows ⌝ }
+{
+    *tags = INFO_TAGS;
+    *places = [8, 14, 23, 28, 41, 60, 74, 86, 92, 0, 0, 0, 0, 0, 0, 0, 0];
+    *lengths = [2, 1, 1, 9, 15, 10, 8, 2, 2, 0, 0, 0, 0, 0, 0, 0, 0];
+    9
+}
+
+// The columns of a completed registration. Read are the lengths of challenge hash, public key and signature, n, m and k, and KRD's; all others are
+// known, and a certificate reaches to the end.
+fn registered_fields(
+    s: &[u8],
+    tags: &mut [usize; MOST_FIELDS],
+    places: &mut [usize; MOST_FIELDS],
+    lengths: &mut [usize; MOST_FIELDS],
+) -> usize
+    requires { ⌜ (reads (registered full (signature ∷ certificate ∷ [])) (now s) || reads (registered surrogate (signature ∷ [])) (now s)) ≡ true ⌝ }
+    ensures { λ r. ⌜ columns (now (tags .exit)) (now (places .exit)) (now (lengths .exit)) r ≡ partsOf (fieldParts (now (s .entry))) ⌝ }
+{
+    let n = get16(s, 48);
+    let id = 50 + n + 4;
+    let cnt = id + 32 + 4;
+    let m = get16(s, cnt + 8 + 2);
+    let key = cnt + 8 + 4;
+    let next = 22 + get16(s, 20) + 4;
+    let k = get16(s, next + 2);
+    let sig = next + 4;
+    let end = sig + k;
+    *tags = REGISTERED_TAGS;
+    *places = [8, 26, 39, 50, id, cnt, key, sig, 0, 0, 0, 0, 0, 0, 0, 0, 0];
+    *lengths = [2, 9, 7, n, 32, 8, m, k, 0, 0, 0, 0, 0, 0, 0, 0, 0];
+    if end == s.len() {
+        return 8;
+    }
+    tags[8] = tags::CERT;
+    places[8] = end + 4;
+    lengths[8] = s.len() - (end + 4);
+    9
+}
+
+// The columns of a completed Sign. Read are the lengths of nonce, challenge hash and content hash, n, m and k, and SIGNED_DATA's; the signature
+// reaches to the end.
+fn signed_fields(
+    s: &[u8],
+    tags: &mut [usize; MOST_FIELDS],
+    places: &mut [usize; MOST_FIELDS],
+    lengths: &mut [usize; MOST_FIELDS],
+) -> usize
+    requires { ⌜ (reads (signed true) (now s) || reads (signed false) (now s)) ≡ true ⌝ }
+    ensures { λ r. ⌜ columns (now (tags .exit)) (now (places .exit)) (now (lengths .exit)) r ≡ partsOf (fieldParts (now (s .entry))) ⌝ }
+{
+    let n = get16(s, 46);
+    let m = get16(s, 48 + n + 2);
+    let ch = 48 + n + 4;
+    let k = get16(s, ch + m + 2);
+    let tc = ch + m + 4;
+    let id = tc + k + 4;
+    let cnt = id + 32 + 4;
+    let sig = 22 + get16(s, 20) + 4;
+    *tags = SIGNED_TAGS;
+    *places = [8, 26, 39, 48, ch, tc, id, cnt, sig, 0, 0, 0, 0, 0, 0, 0, 0];
+    let rest = s.len() - sig;
+    *lengths = [2, 9, 5, n, m, k, 32, 4, rest, 0, 0, 0, 0, 0, 0, 0, 0];
+    9
+}
+
+// The columns of a list of names: two rows for each pair.
+fn name_fields(
+    s: &[u8],
+    tags: &mut [usize; MOST_FIELDS],
+    places: &mut [usize; MOST_FIELDS],
+    lengths: &mut [usize; MOST_FIELDS],
+) -> usize
+    requires { ⌜ any (λ n. reads (nameList n) (now s)) listLengths ≡ true ⌝ }
+    ensures { λ r. ⌜ columns (now (tags .exit)) (now (places .exit)) (now (lengths .exit)) r ≡ partsOf (fieldParts (now (s .entry))) ⌝ }
+{
+    *tags = [0usize; MOST_FIELDS];
+    *places = [0usize; MOST_FIELDS];
+    *lengths = [0usize; MOST_FIELDS];
+    tags[0] = tags::STATUS_CODE;
+    places[0] = 8;
+    lengths[0] = 2;
+    let mut len = 1;
+    let mut at = 10;
+    while at < s.len() {
+        let n = get16(s, at + 4 + 2);
+        let name = at + 4 + 4;
+        tags[len] = tags::USERNAME;
+        places[len] = name;
+        lengths[len] = n;
+        tags[len + 1] = tags::KEYHANDLE;
+        places[len + 1] = name + n + 4;
+        lengths[len + 1] = 32;
+        len += 2;
+        at = at + 4 + get16(s, at + 2);
+    }
+    len
+}
+
+// Of each field of a response the tag, the value's place and the value's length, and their number. Entries past it are 0. Once a stretch is a
+// response, its shape says where its fields stand.
 fn parts_in(
     s: &[u8],
     tags: &mut [usize; MOST_FIELDS],
     places: &mut [usize; MOST_FIELDS],
     lengths: &mut [usize; MOST_FIELDS],
 ) -> usize
-    ensures { λ r. ⌜
-        columns (now (tags .exit)) (now (places .exit)) (now (lengths .exit)) r ≡ partsOf (fieldsMet (now (s .entry))) ⌝ }
+    requires { ⌜ isResponse (now s) ≡ true ⌝ }
+    ensures { λ r. ⌜ columns (now (tags .exit)) (now (places .exit)) (now (lengths .exit)) r ≡ partsOf (fieldParts (now (s .entry))) ⌝ }
 {
-    *tags = [0usize; MOST_FIELDS];
-    *places = [0usize; MOST_FIELDS];
-    *lengths = [0usize; MOST_FIELDS];
-    let mut len = 0;
-    let mut at = 0;
-    while len < MOST_FIELDS {
-        let h = tlv_at(s, at);
-        match h {
-            Head::End => return len,
-            Head::Bad => return len,
-            Head::Tlv { tag, start, end } => {
-                if holds_others(tag) {
-                    at = start;
-                } else {
-                    tags[len] = tag;
-                    places[len] = start;
-                    lengths[len] = end - start;
-                    len += 1;
-                    at = end;
-                }
-            }
-        }
+    if s.len() == 10 {
+        return status_field(tags, places, lengths);
     }
-    len
+    let tag = get16(s, 0);
+    if tag == tags::GETINFO_CMD_RESPONSE {
+        return info_fields(tags, places, lengths);
+    }
+    if tag == tags::REGISTER_CMD_RESPONSE {
+        return registered_fields(s, tags, places, lengths);
+    }
+    if get16(s, 10) == tags::AUTHENTICATOR_ASSERTION {
+        return signed_fields(s, tags, places, lengths);
+    }
+    name_fields(s, tags, places, lengths)
 }
 
 // What the second call gives beside the columns: 0 or the refusal's number; the response tag, the status and the number of fields, or zeros.

@@ -16,6 +16,11 @@ returns : tie.Need-returns
 unfolding readingOf
 returns c = rw (not-read _ (sym (c .before .is-response .ensures) ∙ not-true _ (c .if1 .taken)))
 
+parts-in-requires : tie.Need-parts-in-requires
+parts-in-requires c κs =
+    let i = c .before .before .before in
+    sym (i .before .is-response .ensures) ∙ not-false _ (i .if1 .left)
+
 -- the two headers are there
 start : (c : tie.After-parts-in) → Headed (now (c .before .before .before .before .before .before .before .args .s))
 start c =
@@ -36,4 +41,4 @@ returns-2 c =
 
 pub read-fields-spec : {M : Type 1} → statement M
 read-fields-spec =
-    tie.close (tie.spec (λ c κs. search needs) returns (λ c κs. search needs) get16-requires get16-requires-2 returns-2)
+    tie.close (tie.spec (λ c κs. search needs) returns parts-in-requires get16-requires get16-requires-2 returns-2)
