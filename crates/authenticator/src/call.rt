@@ -70,12 +70,14 @@ fn perform(
         (tableIn (now (table .entry)))))
         (outputsOf (now (response .entry)) (now («table_out» .entry))) ⌝ }
 {
-    let params = params_of(command, kind);
+    let mut handles = [0usize; MAX_OWN];
+    let params = params_of(command, kind, &mut handles);
     let mut chosen = [0usize; MAX_OWN];
     let decision = decide(
         kind,
         command,
         params,
+        &handles,
         numbers,
         mixed,
         key_id,

@@ -16,9 +16,9 @@ use Rattle.model.specs.Records.{own, hasMixed, tableOk}
 use Rattle.model.specs.Commands.{Lent, judge, only, keep, setCount, draft, userChecks, oneChecks, hasContent, signDraft, signOne, chosen, signChosen, decideSign, decide}
 use Rattle.model.proofs.Basics.{and-left, first-passes}
 use Rattle.model.proofs.EdgesSign.{several-listed}
-use Rattle.tlv.specs.Spans.{partsIn}
+use Rattle.tlv.specs.Rows.{rows}
 use Rattle.params.specs.Lent.{lentOf}
-use Rattle.params.specs.Parse.{ParamsPlaced, ParamsRead}
+use Rattle.params.specs.Parse.{HandlesPlaced, ParamsPlaced, ParamsRead, HandlesRead}
 use Rattle.params.specs.declared.lent.Numbers.{Numbers}
 use Rattle.params.specs.declared.parse.Params.{Params}
 use Rattle.stored_table.specs.Stored.{noRecord}
@@ -101,18 +101,21 @@ module _ {s : List ℕ} {p : Params} (n : Numbers) (q : ParamsRead sign s p) {j 
     pub sign-placed : ParamsPlaced s p
     sign-placed = q .unless-broken sign-unbroken
 
-    pub chose : {m : List ℕ} {t : records.Table} {cs : List ℕ} {k : ℕ} → tableOk t ≡ true
-        → ChosenAre (positions (isChosen m (partsIn s (p .handles))) 0 t) cs k → Chose s n m t p cs k
+    pub handles-placed : {places : List ℕ} → HandlesRead sign s places (p .handles) → HandlesPlaced s places (p .handles)
+    handles-placed u = u .unless-broken sign-unbroken
+
+    pub chose : {m places : List ℕ} {t : records.Table} {cs : List ℕ} {k : ℕ} → HandlesRead sign s places (p .handles) → tableOk t ≡ true
+        → ChosenAre (positions (isChosen m (rows 0 (take (p .handles) places) s)) 0 t) cs k → Chose s n m t p cs k
     unfolding decide
-    chose {m} {t} {cs} {k} ok h =
-        let hs : List (List ℕ) = partsIn s (p .handles) in
+    chose {m} {places} {t} {cs} {k} u ok h =
+        let hs : List (List ℕ) = rows 0 (take (p .handles) places) s in
         let r : records.Record = getD t (getD cs 0 0) noRecord in
         let are : recordsAt t (take k cs) ≡ chosen hs (own m t) = chosen-records m hs t (h .are) in
         let of : ChosenOf t (take k cs) = chosen-of m hs t (h .are) ok in
         let first-is : k ≡ 1 → take k cs ≡ getD cs 0 0 ∷ [] = λ e. first-of k cs e (h .within) in
         let one : k ≡ 1 → recordsAt t (take k cs) ≡ r ∷ [] = λ e. ap (recordsAt t) (first-is e) in
         record {
-          signs = λ a d key x y z. decided (sign-checked m key t) e a d x y z ∙ rw (o, are, sign-placed .handles .values);
+          signs = λ a d key x y z. decided (sign-checked m key t) e a d x y z ∙ rw (o, are, handles-placed u .values);
           challenge = challenge-placed sign sign-unbroken refl (sign-placed .challenge-hash);
           within = h .within;
           number = simp (length-map, length-take-le k cs (h .within));

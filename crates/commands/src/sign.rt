@@ -19,7 +19,7 @@ ghost use mathlib.Core.List.{List};
 ghost use lib.ListN.{length};
 ghost use Rattle.model.specs.Tlv.{sign};
 ghost use Rattle.model.specs.Commands.{judge, userChecks, oneChecks};
-ghost use Rattle.params.specs.Parse.{ParamsRead};
+ghost use Rattle.params.specs.Parse.{ParamsRead, HandlesRead};
 ghost use Rattle.stored_table.specs.Stored.{Indexed, tableIn};
 ghost use Rattle.commands.specs.Decisions.{Decides, DecidesOne};
 ghost use Rattle.commands.specs.declared.decision.Judged.the-variants.{Fails, Passes};
@@ -77,17 +77,19 @@ fn sign_one(content: bool, display: u32, count: u32, i: usize) -> Decision
     }
 }
 
-// Sign: a status, the names of several, whose numbers it puts into what is lent for them, or signed data and a count raised.
+// Sign: a status, the names of several, whose numbers it puts into what is lent for them, or signed data and a count raised. The key handles stand at
+// the first of these places.
 pub fn sign(
     command: &[u8],
     params: Params,
+    handles: &[usize],
     numbers: Numbers,
     mixed: &[u8],
     table: &[u8],
     places: &[usize],
     chosen: &mut [usize],
 ) -> Decision
-    requires { ⌜ ParamsRead sign (now command) params ⌝ }
+    requires { ⌜ ParamsRead sign (now command) params × HandlesRead sign (now command) (now handles) (params .handles) ⌝ }
     requires { ⌜ Indexed (now table) (now places) ⌝ }
     requires { ⌜ length (now chosen) ≡ 8 ⌝ }
     ensures { λ r. ⌜
@@ -98,8 +100,8 @@ pub fn sign(
     match judged {
         Judged::Fails(status) => only(status),
         Judged::Passes => {
-            let handles = params.handles;
-            let named = choose(table, places, mixed, command, handles, chosen);
+            let n = params.handles;
+            let named = choose(table, places, mixed, command, &handles[0..n], chosen);
             if named == 0 {
                 return only(ACCESS_DENIED);
             }

@@ -305,7 +305,11 @@ module _ (k : model.Kind) (c : Tlv) {slot most : ℕ} (s : slot ≡ slotOf (c .t
     pub taken-few : childTaken slot most n c ≡ true → (most ≡ 0 → ⊥) → n < most
     taken-few e z = ltb-true _ _ (and-left (ltb n most) _ (sym (taken-listed z) ∙ e))
 
-    -- so that there is a place for it
+    -- it obeys its field's rule
+    pub taken-fits : childTaken slot most n c ≡ true → (most ≡ 0 → ⊥) → fits (slotField slot) (c .value) ≡ true
+    taken-fits e z = and-right (ltb n most) _ (sym (taken-listed z) ∙ e)
+
+    -- and there is a place for it
     pub taken-room : childTaken slot most n c ≡ true → (most ≡ 0 → ⊥) → n < room slot
     taken-room e z = omega (arith, taken-few e z, listed-most z, most-room k slot (listed-slot z))
 

@@ -2,27 +2,27 @@
 -- Assumes nothing.
 use mathlib.Core.Path.{_≡_, sym, ap, _∙_}
 use mathlib.Core.Bool.{Bool, true, false, not, and-false}
-use mathlib.Core.List.{List, [], _∷_, _++_, map}
+use mathlib.Core.List.{List, [], _∷_, _++_}
 use mathlib.Core.Option.{none, some}
 use Prim.Native.Nat.{ℕ, _+_, _-_, _≤_, _<_}
 use native.Mathlib.Omega.{arith}
-use lib.ListN.{length, take, drop, getD, length-drop, length-map, length-append, List·getD-append}
-use lib.Seq.{take-all, getD-take, getD-append-add, ext-getD, length-take-le}
+use lib.ListN.{length, take, drop, getD, length-drop, length-append}
+use lib.Seq.{take-all}
 use lib.Dec.{leb, lit<}
 use borrow.Author.Tests.{leb-true, leb-false, le-leb, lt-leb, not-true}
 use Rattle.model.specs.Lists.{all}
 use Rattle.model.specs.Tlv.{Tlv, tlv, tlvs, isRun, Field, keyHandle, tagOf, maxCommand, Kind, fieldsOf, valuesOf, timesOk, childrenOk, children, broken, fieldsIn, fieldIn, fills}
 use Rattle.model.proofs.Basics.{split, clash}
-use Rattle.tlv.specs.Heads.{headAt, between, part}
-use Rattle.tlv.specs.Spans.{partsIn, noSpan}
+use Rattle.tlv.specs.Heads.{headAt, between}
+use Rattle.tlv.specs.Spans.{noSpan}
 use Rattle.tlv.specs.declared.heads.Span.{Span}
 use Rattle.tlv.specs.declared.heads.Head.the-variants.{Bad, End}
 use Rattle.tlv.proofs.HeadLaws.{IsTlv, fills-short}
 use Rattle.params.specs.Slots.{slots, slotField, slotOf, leastFor, mostFor, bySlot, enough}
 use Rattle.params.specs.Children.{childPasses, childTaken}
-use Rattle.params.specs.Parse.{Placed, HandlesPlaced, noParams, picked, paramsAt, ParamsRead}
+use Rattle.params.specs.Parse.{Placed, HandlesPlaced, noParams, picked, paramsAt, ParamsRead, HandlesRead}
 use Rattle.params.specs.declared.parse.Params.{Params}
-use Rattle.params.proofs.KindLaws.{map-at, slot-tag, room, most-room, listed-slot, listed-most, not-taken}
+use Rattle.params.proofs.KindLaws.{slot-tag, most-room, listed-slot, listed-most, not-taken}
 use Rattle.params.proofs.TimesLaws.{enough-is, too-many}
 use Rattle.params.proofs.ChildLaws.{Follows, walked-end, walked-bad, walked-fails, all-fails, values-own, values-stay}
 use Rattle.params.proofs.SlotLaws.{Noted}
@@ -66,12 +66,17 @@ broken-times : (k : Kind) (s : List ℕ) (held : List Tlv) → length s ≤ maxC
 unfolding broken childrenOk childPasses
 broken-times k s held h e f = rw (le-leb _ _ h, e, f)
 
-pub read-broken : {k : Kind} {s : List ℕ} {r : Params} → broken k s ≡ true → r ≡ noParams → ParamsRead k s r
-read-broken b e = record { broken-is = rw e (sym b); if-broken = λ h. e; unless-broken = λ h. clash b h }
+pub read-broken : {k : Kind} {s places : List ℕ} {r : Params} → broken k s ≡ true → r ≡ noParams
+    → ParamsRead k s r × HandlesRead k s places (r .handles)
+read-broken b e = (
+  record { broken-is = rw e (sym b); if-broken = λ h. e; unless-broken = λ h. clash b h },
+  record { unless-broken = λ h. clash b h },
+)
 
 -- ---- a turn at what is no child, or at one that is not taken
 
-module _ {k : Kind} {s times : List ℕ} {first handles : List Span} {at : ℕ} (so-far : Noted k s times first handles at) (whole : fills s ≡ true) where
+module _ {k : Kind} {s times : List ℕ} {first : List Span} {handles : List ℕ} {at : ℕ} (so-far : Noted k s times first handles at)
+    (whole : fills s ≡ true) where
   pub broken-bad : headAt s at ≡ Bad → broken k s ≡ true
   broken-bad e = broken-run k s whole (rw (walked-bad (so-far .walked) e))
 
@@ -97,7 +102,7 @@ module _ {k : Kind} {s times : List ℕ} {first handles : List Span} {at : ℕ} 
         rw (values-own f (so-far .held) tag (between s start end) own) (simp length-append) in
         broken-run k s whole (walked-fails (so-far .walked) i (childrenOk (fieldsOf k))
         (λ ts. let more : mostFor k f < length (valuesOf f (now-held ++ ts)) =
-        omega (arith, values-stay f now-held ts, grown, so-far .each slot h .count, l) in
+        omega (arith, values-stay f now-held ts, grown, so-far .counted slot h .count, l) in
         rw (too-many k (now-held ++ ts) slot h z more, and-false)))
 
     pub broken-refused : {slot most : ℕ} {b : Bool} {v : List ℕ} → slot ≡ slotOf tag → most ≡ getD (bySlot (mostFor k)) slot 0
@@ -112,8 +117,8 @@ module _ {k : Kind} {s times : List ℕ} {first handles : List Span} {at : ℕ} 
 
 -- ---- where all children were taken
 
-module _ {k : Kind} {s times : List ℕ} {first handles : List Span} {at : ℕ} (all-noted : Noted k s times first handles at) (e : headAt s at ≡ End)
-    (short : length s ≤ maxCommand) (whole : fills s ≡ true) where
+module _ {k : Kind} {s times : List ℕ} {first : List Span} {handles : List ℕ} {at : ℕ} (all-noted : Noted k s times first handles at)
+    (e : headAt s at ≡ End) (short : length s ≤ maxCommand) (whole : fills s ≡ true) where
   abbrev held : List Tlv
   held = all-noted .held
 
@@ -127,62 +132,48 @@ module _ {k : Kind} {s times : List ℕ} {first handles : List Span} {at : ℕ} 
   broken-is : broken k s ≡ not (enough (bySlot (leastFor k)) times)
   broken-is =
       let same : enough (bySlot (leastFor k)) times ≡ all (timesOk held) (fieldsOf k) =
-      enough-is k held times (all-noted .counts) (λ j h. all-noted .each j h .count)
-      (λ j h. omega (arith, all-noted .each j h .count, all-noted .each j h .few)) in
+      enough-is k held times (all-noted .counts) (λ j h. all-noted .counted j h .count)
+      (λ j h. omega (arith, all-noted .counted j h .count, all-noted .counted j h .few)) in
       rw same (broken-times k s held short held-is (all-noted .passed))
 
   -- the first value of a slot's field
-  placed-at : (slot : ℕ) → slot < 9 → 0 < room slot → Placed s (slotField slot) (getD first slot noSpan)
+  placed-at : (slot : ℕ) → slot < 9 → Placed s (slotField slot) (getD first slot noSpan)
   unfolding fieldIn
-  placed-at slot h l =
-      let i = all-noted .each slot (omega arith) in
-      let z : getD (first ++ handles) (slot + 0) noSpan ≡ getD first slot noSpan =
-      ap (λ (x : ℕ). getD (first ++ handles) x noSpan) (omega arith)
-      ∙ List·getD-append first handles noSpan slot (omega (arith, all-noted .nine)) in
-      record { inside = rw z at (i .inside 0 l); value = rw (values-in (slotField slot)) (rw z at (i .value 0 l)) }
+  placed-at slot h =
+      let i = all-noted .firsts slot h in
+      record { inside = i .inside; value = rw (values-in (slotField slot)) (i .value) }
 
   -- all key handles
-  handles-placed : HandlesPlaced s (record { at = handles; len = getD times 9 0 })
-  unfolding partsIn
+  handles-placed : HandlesPlaced s handles (getD times 9 0)
   handles-placed =
-      let n : ℕ = getD times 9 0 in
-      let i = all-noted .each 9 (lit< tt) in
-      let few : n ≤ 8 = omega (arith, i .few, most-room k 9 (lit< tt)) in
-      let vs : List (List ℕ) = valuesOf keyHandle held in
-      let size : length (take n handles) ≡ n = length-take-le n handles (omega (arith, few, all-noted .eight)) in
-      let there : (j : ℕ) → getD (first ++ handles) (9 + j) noSpan ≡ getD handles j noSpan =
-      λ j. rw (all-noted .nine) at (getD-append-add first handles j noSpan) in
+      let i = all-noted .rows-are in
       record {
-        inside = record { few = few; each = λ j h. rw (there j) at (i .inside j (omega arith)) };
-        values = rw (values-in keyHandle)
-            (ext-getD [] (map (part s) (take n handles)) vs (length-map (take n handles) (part s) ∙ size ∙ i .count)
-            (λ j h. let l : j < n = omega (arith, size, simp length-map at h) in
-            sym (map-at (part s) (take n handles) j noSpan [] (omega (arith, size)))
-            ∙ ap (part s) (getD-take n handles j noSpan l ∙ sym (there j))
-            ∙ i .value j (omega arith)));
+        few = omega (arith, all-noted .eight, all-noted .counted 9 (lit< tt) .few, most-room k 9 (lit< tt));
+        inside = i .inside;
+        values = rw (values-in keyHandle) (i .values);
       }
 
-  read-picked : broken k s ≡ false → ParamsRead k s (picked first handles (getD times 9 0))
+  read-picked : broken k s ≡ false → ParamsRead k s (picked first (getD times 9 0))
   read-picked b =
       record {
         broken-is = sym b;
         if-broken = λ h. clash h b;
         unless-broken = λ h. record {
-          app-id = placed-at 1 (lit< tt) (lit< tt);
-          challenge-hash = placed-at 2 (lit< tt) (lit< tt);
-          username = placed-at 3 (lit< tt) (lit< tt);
-          attestation-type = placed-at 4 (lit< tt) (lit< tt);
-          access-token = placed-at 7 (lit< tt) (lit< tt);
-          key-id = placed-at 6 (lit< tt) (lit< tt);
-          transaction-content = placed-at 5 (lit< tt) (lit< tt);
-          handles = handles-placed;
+          app-id = placed-at 1 (lit< tt);
+          challenge-hash = placed-at 2 (lit< tt);
+          username = placed-at 3 (lit< tt);
+          attestation-type = placed-at 4 (lit< tt);
+          access-token = placed-at 7 (lit< tt);
+          key-id = placed-at 6 (lit< tt);
+          transaction-content = placed-at 5 (lit< tt);
         };
       }
 
   -- the whole answer
-  pub read-all : {least : List ℕ} → least ≡ bySlot (leastFor k) → {r : Params} → r ≡ paramsAt least times first handles → ParamsRead k s r
+  pub read-all : {least : List ℕ} → least ≡ bySlot (leastFor k) → {r : Params} → r ≡ paramsAt least times first
+      → ParamsRead k s r × HandlesRead k s handles (r .handles)
   unfolding paramsAt
   read-all l p =
       split (enough (bySlot (leastFor k)) times)
-      (λ h. rw (p, l, h) (read-picked (broken-is ∙ rw h)))
+      (λ h. rw (p, l, h) (read-picked (broken-is ∙ rw h), record { unless-broken = λ b. handles-placed }))
       (λ h. read-broken (broken-is ∙ rw h) (p ∙ rw (l, h)))

@@ -3,13 +3,13 @@ use mathlib.Core.Path.{_≡_}
 use Prim.Native.Nat.{ℕ, _≤_}
 use mathlib.Core.Bool.{true, false, cond}
 use mathlib.Core.List.{List, [], _∷_}
-use lib.ListN.{length, drop, getD}
+use lib.ListN.{length, take, drop, getD}
 use Rattle.model.specs.Tlv as model
 use Rattle.model.specs.Tlv.{maxCommand, fills, broken, fieldsIn, fieldIn}
 use Rattle.tlv.specs.Heads.{part}
-use Rattle.tlv.specs.Spans.{noSpan, partsIn, Inside, AllInside}
+use Rattle.tlv.specs.Rows.{rows, Within}
+use Rattle.tlv.specs.Spans.{noSpan, Inside}
 use Rattle.tlv.specs.declared.heads.Span.{Span}
-use Rattle.tlv.specs.declared.heads.Spans.{Spans}
 use Rattle.params.specs.Slots.{enough}
 use Rattle.params.specs.declared.parse.Params.{Params}
 
@@ -18,12 +18,13 @@ pub record Placed (s : List ℕ) (f : model.Field) (p : Span) : Type 0 where
   pub inside : Inside s p
   pub value : part s p ≡ fieldIn f s
 
--- parts of the command are the values of its key handles, in their order
-pub record HandlesPlaced (s : List ℕ) (ps : Spans) : Type 0 where
-  pub inside : AllInside s ps
-  pub values : partsIn s ps ≡ fieldsIn model.keyHandle s
+-- the command's key handles, each of 32 bytes, stand at the first n of some places, in their order
+pub record HandlesPlaced (s places : List ℕ) (n : ℕ) : Type 0 where
+  pub few : n ≤ length places
+  pub inside : Within 0 (take n places) s
+  pub values : rows 0 (take n places) s ≡ fieldsIn model.keyHandle s
 
--- every parameter stands at its part of the command
+-- every parameter but those stands at its part of the command
 pub record ParamsPlaced (s : List ℕ) (r : Params) : Type 0 where
   pub app-id : Placed s model.appId (r .«app_id»)
   pub challenge-hash : Placed s model.challengeHash (r .«challenge_hash»)
@@ -32,7 +33,6 @@ pub record ParamsPlaced (s : List ℕ) (r : Params) : Type 0 where
   pub access-token : Placed s model.accessToken (r .«access_token»)
   pub key-id : Placed s model.keyIdOrNone (r .«key_id»)
   pub transaction-content : Placed s model.transactionContent (r .«transaction_content»)
-  pub handles : HandlesPlaced s (r .handles)
 
 -- the answer to a command that breaks a rule
 abbrev pub noParams : Params
@@ -46,12 +46,12 @@ noParams =
       «access_token» = noSpan;
       «key_id» = noSpan;
       «transaction_content» = noSpan;
-      handles = record { at = noSpan ∷ noSpan ∷ noSpan ∷ noSpan ∷ noSpan ∷ noSpan ∷ noSpan ∷ noSpan ∷ []; len = 0 };
+      handles = 0;
     }
 
--- where every parameter stands, by the first value of each slot and the key handles, of which there are so many
-abbrev pub picked : (first handles : List Span) → ℕ → Params
-picked first handles n =
+-- where every parameter stands, by the first value of each slot, and how many key handles there are
+abbrev pub picked : List Span → ℕ → Params
+picked first n =
     let at : ℕ → Span = λ slot. getD first slot noSpan in
     record {
       broken = false;
@@ -62,12 +62,12 @@ picked first handles n =
       «access_token» = at 7;
       «key_id» = at 6;
       «transaction_content» = at 5;
-      handles = record { at = handles; len = n };
+      handles = n;
     }
 
 -- the answer to a command whose children were all taken
-unfoldable pub paramsAt : (least times : List ℕ) (first handles : List Span) → Params
-paramsAt least times first handles = cond (enough least times) (picked first handles (getD times 9 0)) noParams
+unfoldable pub paramsAt : (least times : List ℕ) → List Span → Params
+paramsAt least times first = cond (enough least times) (picked first (getD times 9 0)) noParams
 
 -- what the reader gives for a command of this kind
 pub record ParamsRead (k : model.Kind) (s : List ℕ) (r : Params) : Type 0 where
@@ -75,6 +75,10 @@ pub record ParamsRead (k : model.Kind) (s : List ℕ) (r : Params) : Type 0 wher
   pub if-broken : broken k s ≡ true → r ≡ noParams
   pub unless-broken : broken k s ≡ false → ParamsPlaced s r
 
--- what the reader of a child run gives: the answer to every command of this kind that is not too long and has this run after its header
-pub record ChildrenRead (k : model.Kind) (run : List ℕ) (r : Params) : Type 0 where
-  pub answers : (s : List ℕ) → length s ≤ maxCommand → fills s ≡ true → run ≡ drop 4 s → ParamsRead k s r
+-- what it leaves in the places that are lent for the key handles, of which there are n
+pub record HandlesRead (k : model.Kind) (s places : List ℕ) (n : ℕ) : Type 0 where
+  pub unless-broken : broken k s ≡ false → HandlesPlaced s places n
+
+-- what the reader of a child run gives and leaves: the answer to every command of this kind that is not too long and has this run after its header
+pub record ChildrenRead (k : model.Kind) (run places : List ℕ) (r : Params) : Type 0 where
+  pub answers : (s : List ℕ) → length s ≤ maxCommand → fills s ≡ true → run ≡ drop 4 s → ParamsRead k s r × HandlesRead k s places (r .handles)

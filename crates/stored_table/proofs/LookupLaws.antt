@@ -1,4 +1,5 @@
--- Which records are chosen: the handles given, the numbers of the records that pass, and the records that have these numbers.
+-- Which records are chosen: the handles given, the numbers of the records that pass, and the records that have these numbers; and whether a mixed
+-- token has a KeyID.
 -- Assumes nothing.
 use mathlib.Core.Path.{_≡_, refl, sym, ap, _∙_}
 use mathlib.Core.Bool.{Bool, true, false, not, _&&_, _||_}
@@ -16,11 +17,8 @@ use Rattle.model.specs.Records.{hasMixed, own, keyIds, tableOk}
 use Rattle.model.specs.Commands.{chosen}
 use Rattle.model.proofs.Basics.{split, eqBytes-sym, select-both, length-select}
 use Rattle.model.proofs.Rules.{tests}
-use Rattle.tlv.specs.Heads.{part}
-use Rattle.tlv.specs.Spans.{span, noSpan, partsIn, AllInside}
-use Rattle.tlv.specs.Rows.{row}
-use Rattle.tlv.specs.declared.heads.Spans.{Spans}
-use Rattle.tlv.proofs.HeadLaws.{empty-size}
+use Rattle.tlv.specs.Rows.{row, rows}
+use Rattle.tlv.proofs.RowLaws.{length-rows, rows-end, rows-at}
 use Rattle.stored_table.specs.Stored.{noRecord, keyIdAt, mixedAt, recordAt, tableIn, Indexed}
 use Rattle.stored_table.specs.Chosen.{isChosen, positions, ChosenAre, ChosenOf, recordsAt}
 use Rattle.stored_table.proofs.IndexLaws.{record-at, length-places}
@@ -32,36 +30,23 @@ given-one : (key : List ℕ) (hs : List (List ℕ)) → 0 < length hs → (empty
 given-one key [] h = absurd (omega arith)
 given-one key (x ∷ hs) h = refl
 
-module _ (s : List ℕ) (ps : Spans) (key : List ℕ) where
-  pub given-none : ps .len ≡ 0 → (empty (partsIn s ps) || among key (partsIn s ps)) ≡ true
-  unfolding partsIn
-  given-none e =
-      let n : partsIn s ps ≡ [] = ap (λ (n : ℕ). map (part s) (take n (ps .at))) e in
-      rw n
+module _ (handles s key : List ℕ) where
+  abbrev given : List (List ℕ)
+  given = rows 0 handles s
 
-  module _ (fits : ps .len ≤ length (ps .at)) where
-    length-parts : length (partsIn s ps) ≡ ps .len
-    unfolding partsIn
-    length-parts = simp (length-map, length-take-le (ps .len) (ps .at) fits)
+  pub given-none : length handles ≡ 0 → (empty (rows 0 handles s) || among key (rows 0 handles s)) ≡ true
+  given-none e = let n : given ≡ [] = rows-end 0 handles s 0 (omega arith) in rw n
 
-    pub given-some : (ps .len ≡ 0 → ⊥) → (empty (partsIn s ps) || among key (partsIn s ps)) ≡ among key (partsIn s ps)
-    given-some h = given-one key (partsIn s ps) (pos-of-ne-zero (λ e. h (sym length-parts ∙ e)))
+  pub given-some : (length handles ≡ 0 → ⊥) → (empty (rows 0 handles s) || among key (rows 0 handles s)) ≡ among key (rows 0 handles s)
+  given-some h = given-one key given (pos-of-ne-zero (λ e. h (sym (length-rows 0 handles s) ∙ e)))
 
-    pub given-end : (j : ℕ) → ps .len ≤ j → among key (drop j (partsIn s ps)) ≡ false
-    given-end j h = rw (drop-of-length-le (partsIn s ps) {i = j} (omega (arith, length-parts)))
+  pub given-end : (j : ℕ) → length handles ≤ j → among key (drop j (rows 0 handles s)) ≡ false
+  given-end j h = rw (rows-end 0 handles s j h)
 
-    module _ (j : ℕ) (h : j < ps .len) where
-      parts-at : drop j (partsIn s ps) ≡ part s (getD (ps .at) j noSpan) ∷ drop (j + 1) (partsIn s ps)
-      unfolding partsIn
-      parts-at =
-          let e : getD (partsIn s ps) j (part s noSpan) ≡ part s (getD (ps .at) j noSpan) =
-          List·getD-map (part s) (take (ps .len) (ps .at)) j noSpan ∙ ap (part s) (getD-take (ps .len) (ps .at) j noSpan h) in
-          drop-cons (partsIn s ps) j (part s noSpan) (omega (arith, length-parts)) ∙ rw (e, add-one)
-
-      -- at handle j, where b is what its test gave
-      pub given-at : (b : Bool) → b ≡ eqBytes key (part s (getD (ps .at) j noSpan))
-          → among key (drop j (partsIn s ps)) ≡ (b || among key (drop (j + 1) (partsIn s ps)))
-      given-at b e = rw parts-at (rw (eqBytes-sym (part s (getD (ps .at) j noSpan)) key, ← e))
+  -- at handle j, where b is what its test gave
+  pub given-at : (j : ℕ) → j < length handles → {b : Bool} → b ≡ eqBytes key (row (getD handles j 0) s)
+      → among key (drop j (rows 0 handles s)) ≡ (b || among key (drop (j + 1) (rows 0 handles s)))
+  given-at j h e = rw (rows-at 0 handles s j h, add-zero, eqBytes-sym (row (getD handles j 0) s) key, ← e)
 
 -- ---- the numbers of the elements that pass a test
 
@@ -186,42 +171,27 @@ module _ (m : List ℕ) (hs : List (List ℕ)) {table places : List ℕ} (x : In
             are = one-more ∙ rw (add-one len, take-suc-set records len i l) (sym (append-assoc (take len records) (i ∷ []) _));
           }
 
--- ---- a KeyID looked up as the only handle, a part of itself
+-- ---- a walk over the records for a KeyID of a mixed token's
 
-abbrev pub onlyHandle : List ℕ → Spans
-onlyHandle k =
-    let p = span 0 (length k) in
-    record { at = p ∷ p ∷ p ∷ p ∷ p ∷ p ∷ p ∷ p ∷ []; len = 1 }
+-- one record more, if it has the mixed token
+own-more : (m k : List ℕ) (r : model.Record) (t : model.Table)
+    → among k (keyIds (own m (r ∷ t))) ≡ ((eqBytes (r .mixed) m && eqBytes (r .keyId) k) || among k (keyIds (own m t)))
+unfolding own
+own-more m k r t = split (eqBytes (r .mixed) m) (λ e. rw e) (λ e. rw e)
 
-pub only-inside : (k : List ℕ) → AllInside k (onlyHandle k)
-only-inside k =
-    record {
-      few = omega arith;
-      each = λ i l. let e : i ≡ 0 = omega (arith, l) in rw e (record { ordered = omega arith; within = omega arith });
-    }
+module _ (m k : List ℕ) {table places : List ℕ} (x : Indexed table places) (i : ℕ) where
+  pub own-end : length places ≤ i → among k (keyIds (own m (drop i (tableIn table)))) ≡ false
+  unfolding own
+  own-end h = rw (drop-of-length-le (tableIn table) {i = i} (omega (arith, length-places x)))
 
-only-is : (k : List ℕ) → partsIn k (onlyHandle k) ≡ k ∷ []
-unfolding partsIn
-only-is k =
-    let e : length k - 0 ≡ length k = omega arith in
-    rw (e, take-length k)
-
--- a mixed token has a record with this KeyID exactly if one is chosen
-own-chosen : (m k : List ℕ) (i : ℕ) (t : model.Table) → among k (keyIds (own m t)) ≡ not (empty (positions (isChosen m (k ∷ [])) i t))
-unfolding own positions
-own-chosen m k i [] = refl
-own-chosen m k i (r ∷ t) =
-    let ih = own-chosen m k (suc i) t in
-    let same = eqBytes-sym (r .keyId) k in
-    split (eqBytes (r .mixed) m)
-    (λ e. split (eqBytes (r .keyId) k) (λ f. rw (e, f, sym same ∙ f)) (λ f. rw (e, f, sym same ∙ f) ih))
-    (λ e. rw e ih)
-
-pub own-found : (m k : List ℕ) (t : model.Table) {found : List ℕ} {n : ℕ}
-    → ChosenAre (positions (isChosen m (partsIn k (onlyHandle k))) 0 t) found n → not (eqb n 0) ≡ among k (keyIds (own m t))
-own-found m k t {found} {n} h =
-    let is = positions (isChosen m (k ∷ [])) 0 t in
-    let q : ChosenAre is found n = rw (only-is k) at h in
-    let size = length-take-le n found (q .within) in
-    let e : empty is ≡ eqb n 0 = empty-size is n 0 (omega (arith, size, ap length (q .are))) in
-    ap not (sym e) ∙ sym (own-chosen m k 0 t)
+  -- at record i, where a and g are what the tests of its mixed token and of its KeyID gave
+  pub own-at : i < length places → (a g : Bool) → a ≡ eqBytes (row (getD places i 0 + mixedAt) table) m
+      → g ≡ eqBytes (row (getD places i 0 + keyIdAt) table) k
+      → among k (keyIds (own m (drop i (tableIn table)))) ≡ ((a && g) || among k (keyIds (own m (drop (i + 1) (tableIn table)))))
+  unfolding recordAt
+  own-at h a g e f =
+      let t : model.Table = tableIn table in
+      let r = getD t i noRecord in
+      let owner : row (getD places i 0 + mixedAt) table ≡ r .mixed = ap (λ (r : model.Record). r .mixed) (record-at x i h .is) in
+      let key : row (getD places i 0 + keyIdAt) table ≡ r .keyId = ap (λ (r : model.Record). r .keyId) (record-at x i h .is) in
+      rw (drop-cons t i noRecord (omega (arith, length-places x)), add-one, own-more m k r (drop (suc i) t), e, f, owner, key)

@@ -1,11 +1,8 @@
 use crate::records::KEY_ID;
-use crate::records::MAX_OWN;
 use crate::records::MIXED;
-use tlv::heads::Span;
-use tlv::heads::Spans;
-use tlv::heads::part_of;
 use tlv::rows::is_among;
 use tlv::rows::row_is;
+use tlv::rows::same_row;
 use tlv::rows::times_in;
 ghost use mathlib.Core.Path.{_≡_};
 ghost use Prim.Native.Nat.{_+_, _≤_};
@@ -13,8 +10,7 @@ ghost use mathlib.Core.Bool.{_||_};
 ghost use lib.ListN.{length};
 ghost use Rattle.model.specs.Lists.{among, empty};
 ghost use Rattle.model.specs.Records.{own, keyIds};
-ghost use Rattle.tlv.specs.Spans.{partsIn, AllInside};
-ghost use Rattle.tlv.specs.Rows.{row};
+ghost use Rattle.tlv.specs.Rows.{row, rows, Within};
 ghost use Rattle.stored_table.specs.Stored.{Indexed, tableIn};
 ghost use Rattle.stored_table.specs.Chosen.{ChosenAre, positions, isChosen};
 
@@ -34,20 +30,18 @@ pub fn own_count(table: &[u8], places: &[usize], mixed: &[u8]) -> usize
     times_in(table, places, MIXED, 0, mixed)
 }
 
-// Whether no handle is given or the 32 bytes at a place are among them. The handles are parts of s.
-fn is_given(table: &[u8], place: usize, s: &[u8], handles: Spans) -> bool
+// Whether no handle is given or the 32 bytes at a place are among them. The handles are the rows of s at these places.
+fn is_given(table: &[u8], place: usize, s: &[u8], handles: &[usize]) -> bool
     requires { ⌜ place + 32 ≤ length (now table) ⌝ }
-    requires { ⌜ AllInside (now s) handles ⌝ }
-    ensures { λ r. ⌜ r ≡ (empty (partsIn (now (s .entry)) handles) || among (row place (now (table .entry))) (partsIn (now (s .entry)) handles)) ⌝ }
+    requires { ⌜ Within 0 (now handles) (now s) ⌝ }
+    ensures { λ r. ⌜ r ≡ (empty (rows 0 (now (handles .entry)) (now (s .entry))) || among (row place (now (table .entry))) (rows 0 (now (handles .entry)) (now (s .entry)))) ⌝ }
 {
-    let n = handles.len;
-    if n == 0 {
+    if handles.len() == 0 {
         return true;
     }
     let mut j = 0;
-    while j < n {
-        let h = handles.at[j];
-        if row_is(table, place, part_of(s, h)) {
+    while j < handles.len() {
+        if same_row(table, place, s, handles[j]) {
             return true;
         }
         j += 1;
@@ -55,20 +49,20 @@ fn is_given(table: &[u8], place: usize, s: &[u8], handles: Spans) -> bool
     false
 }
 
-// How many records are chosen by a mixed token and the handles given, which are parts of s: at most eight, because a mixed token has no more. Their
+// How many records are chosen by a mixed token and the handles given, which are rows of s: at most eight, because a mixed token has no more. Their
 // numbers in the table, the oldest of all being 0, are put first in what is lent for them; what stands past them is open.
 pub fn choose(
     table: &[u8],
     places: &[usize],
     mixed: &[u8],
     s: &[u8],
-    handles: Spans,
+    handles: &[usize],
     chosen: &mut [usize],
 ) -> usize
     requires { ⌜ Indexed (now table) (now places) ⌝ }
-    requires { ⌜ AllInside (now s) handles ⌝ }
+    requires { ⌜ Within 0 (now handles) (now s) ⌝ }
     requires { ⌜ length (now chosen) ≡ 8 ⌝ }
-    ensures { λ r. ⌜ ChosenAre (positions (isChosen (now (mixed .entry)) (partsIn (now (s .entry)) handles)) 0 (tableIn (now (table .entry)))) (now (chosen .exit)) r ⌝ }
+    ensures { λ r. ⌜ ChosenAre (positions (isChosen (now (mixed .entry)) (rows 0 (now (handles .entry)) (now (s .entry)))) 0 (tableIn (now (table .entry)))) (now (chosen .exit)) r ⌝ }
 {
     let mut len = 0;
     let mut i = 0;
@@ -85,19 +79,20 @@ pub fn choose(
     len
 }
 
-// Whether a mixed token has a record with this KeyID: one is chosen by it as the only handle.
+// Whether a mixed token has a record with this KeyID.
 pub fn is_own(table: &[u8], places: &[usize], mixed: &[u8], key: &[u8]) -> bool
     requires { ⌜ Indexed (now table) (now places) ⌝ }
     ensures { λ r. ⌜ r ≡ among (now (key .entry)) (keyIds (own (now (mixed .entry)) (tableIn (now (table .entry))))) ⌝ }
 {
-    let whole = Span {
-        start: 0,
-        end: key.len(),
-    };
-    let handles = Spans {
-        at: [whole; 8],
-        len: 1,
-    };
-    let mut found = [0usize; MAX_OWN];
-    choose(table, places, mixed, key, handles, &mut found) != 0
+    let mut i = 0;
+    while i < places.len() {
+        let place = places[i];
+        if row_is(table, place + MIXED, mixed) {
+            if row_is(table, place + KEY_ID, key) {
+                return true;
+            }
+        }
+        i += 1;
+    }
+    false
 }

@@ -31,12 +31,6 @@ impl Span {
 // An empty part at the front.
 pub const NO_SPAN: Span = Span { start: 0, end: 0 };
 
-// At most eight parts of a stretch.
-pub struct Spans {
-    pub at: [Span; 8],
-    pub len: usize,
-}
-
 // A part of a stretch, lent on.
 pub fn part_of(s: &[u8], p: Span) -> &[u8]
     requires { ⌜ Inside (now s) p ⌝ }

@@ -9,7 +9,7 @@ use Rattle.authenticator.proofs.call.perform.Statement.{statement}
 use Rattle.authenticator.proofs.call.perform.Tie as tie
 
 abbrev start : tie.After-params-of → tie.Start
-start c = c .before .before .before .before .before .before .before .before .before .before .before .before .before
+start c = c .before .before .before .before .before .before .before .before .before .before .before .before .before .before
 
 -- the records start at the places that are lent
 indexed : (c : tie.After-params-of) → let a = start c .args in Indexed (now (a .table)) (now (a .places))
@@ -17,20 +17,20 @@ indexed c = start c .pre .1 .0
 
 decide-requires : tie.Need-decide-requires
 decide-requires c κs =
-    let p = c .before in
+    let p = c .before .before .before in
     (p .params-of .ensures, (register-lent _ (start p .pre .0), (indexed p, refl)))
 
 reply-len-requires : tie.Need-reply-len-requires
 reply-len-requires c κs =
     let d = c .before .before .before .before in
-    let p = d .before .before in
+    let p = d .before .before .before .before in
     let k = d .decide .ensures in
-    ((challenge-ordered (p .params-of .ensures), rw sub-zero (reply-short k _ _ _ _ _ (start p .pre .0))), indexed p)
+    ((challenge-ordered (p .params-of .ensures .0), rw sub-zero (reply-short k _ _ _ _ _ (start p .pre .0))), indexed p)
 
 write-reply-requires : tie.Need-write-reply-requires
 write-reply-requires c κs =
     let d = c .before .before .before .before .before .before in
-    let p = d .before .before in
+    let p = d .before .before .before .before in
     let s = start p .pre in
     let k = d .decide .ensures in
     let e = c .before .reply-len .ensures in
@@ -40,19 +40,19 @@ write-reply-requires c κs =
 put-left-requires : tie.Need-put-left-requires
 put-left-requires c κs =
     let d = c .before .before .before .before .before .before .before .before .before .before in
-    let p = d .before .before in
+    let p = d .before .before .before .before in
     (indexed p, (d .decide .ensures .can, start p .pre .1 .1 .1))
 
 returns : tie.Need-returns
 returns c =
     let w = c .before .before .before .before .before .before .before in
     let d = w .before .before .before .before .before .before .before in
-    let mixed = now (start (d .before .before) .args .mixed) in
+    let mixed = now (start (d .before .before .before .before) .args .mixed) in
     ends-gave (d .decide .ensures) _ _ _ _ _ _ _ (c .is-draft .ensures) (rw sub-zero at (w .write-reply .ensures mixed))
     (c .before .before .before .put-left .ensures)
 
 pub perform-spec : {M : Type 1} → statement M
 perform-spec =
     tie.close
-    (tie.spec (λ c κs. search needs) (λ c. search needs) decide-requires (λ c. search needs) (λ c. search needs)
+    (tie.spec (λ c. search needs) (λ c κs. refl) (λ c. search needs) (λ c. search needs) decide-requires (λ c. search needs) (λ c. search needs)
     (λ c. c .before .before .decide .ensures .within) reply-len-requires write-reply-requires put-left-requires (λ c κs. search needs) (λ c. search needs) (λ c. search needs) returns)

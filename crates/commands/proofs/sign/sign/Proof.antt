@@ -5,29 +5,34 @@ use mathlib.Core.Path.{sym, ap, _∙_}
 use mathlib.Core.Bool.{not}
 use Prim.Native.Nat.{_<_}
 use lib.ListN.{length, getD}
+use native.Mathlib.Nat.{sub-zero}
 use native.Mathlib.Omega.{arith}
 use Rattle.model.specs.Records.{Record}
 use Rattle.model.specs.Commands.{hasContent}
-use Rattle.params.specs.Parse.{ParamsPlaced}
+use Rattle.params.specs.Parse.{HandlesPlaced, ParamsPlaced}
 use Rattle.stored_table.specs.Stored.{tableIn}
 use Rattle.stored_table.proofs.IndexLaws.{record-at, length-places, few-places}
 use Rattle.commands.proofs.JudgeLaws.{placed-empty}
-use Rattle.commands.proofs.SignLaws.{Chose, chose, sign-fails, sign-placed, none-chosen, one-chosen, several-chosen}
+use Rattle.commands.proofs.SignLaws.{Chose, chose, sign-fails, sign-placed, handles-placed, none-chosen, one-chosen, several-chosen}
 use Rattle.commands.proofs.sign.sign.Statement.{statement}
 use Rattle.commands.proofs.sign.sign.Tie as tie
 
 -- where the checks have passed
 abbrev start : tie.After-enum-told → tie.Start
-start c = c .before .before .before .before .before .before .before .before
+start c = c .before .before .before .before .before .before .before .before .before
 
 returns-3 : tie.Need-returns-3
 returns-3 c =
     let j = c .before .before .before .before in
     λ k. rw (c .only .ensures)
-    (sign-fails _ (j .before .before .before .before .before .before .pre .0) (j .judge-sign .ensures) (c .before .before .judged .given .1))
+    (sign-fails _ (j .before .before .before .before .before .before .before .pre .0 .0) (j .judge-sign .ensures) (c .before .before .judged .given .1))
 
 placed : (c : tie.After-enum-told) → ParamsPlaced (now (start c .args .command)) (start c .args .params)
-placed c = sign-placed (start c .args .numbers) (start c .pre .0) (c .before .before .judge-sign .ensures) (c .enum-told .given .1)
+placed c = sign-placed (start c .args .numbers) (start c .pre .0 .0) (c .before .before .judge-sign .ensures) (c .enum-told .given .1)
+
+given : (c : tie.After-enum-told) → HandlesPlaced (now (start c .args .command)) (now (start c .args .handles)) (start c .args .params .handles)
+given c =
+    handles-placed (start c .args .numbers) (start c .pre .0 .0) (c .before .before .judge-sign .ensures) (c .enum-told .given .1) (start c .pre .0 .1)
 
 -- the records found are those chosen
 found : (c : tie.After-choose) → let a = start (c .before .before .before) .args in
@@ -35,7 +40,8 @@ found : (c : tie.After-choose) → let a = start (c .before .before .before) .ar
     (c .choose .result)
 found c =
     let p = c .before .before .before in
-    chose _ (start p .pre .0) (p .before .before .judge-sign .ensures) (p .enum-told .given .1) (start p .pre .1 .0 .ok) (c .choose .ensures)
+    chose _ (start p .pre .0 .0) (p .before .before .judge-sign .ensures) (p .enum-told .given .1) (start p .pre .0 .1) (start p .pre .1 .0 .ok)
+    (rw (sub-zero (start p .args .params .handles)) at (c .choose .ensures))
 
 -- the only one has a place
 abbrev start-2 : tie.Then2 → tie.Start
@@ -47,7 +53,7 @@ first c = omega (arith, found (c .before .before .before .before) .mine (c .if2 
 choose-requires : tie.Need-choose-requires
 choose-requires c κs =
     let p = c .before .before in
-    (start p .pre .1 .0, (placed p .handles .inside, start p .pre .1 .1))
+    (start p .pre .1 .0, (rw (sub-zero (start p .args .params .handles)) (given p .inside), start p .pre .1 .1))
 
 returns : tie.Need-returns
 returns c = λ k. rw (c .only2 .ensures) (none-chosen (found (c .before .before .before .before)) (c .before .if1 .taken))
@@ -79,6 +85,7 @@ returns-4 c = λ k. several-chosen (found (c .before .before .before .before)) (
 pub sign-spec : {M : Type 1} → statement M
 sign-spec =
     tie.close
-    (tie.spec (λ c κs. search needs) (λ c. search needs) (λ c κs. search needs) (λ c. search needs) choose-requires (λ c κs. search needs)
+    (tie.spec (λ c κs. search needs) (λ c. search needs) (λ c κs. search needs) (λ c. search needs)
+    (λ c. search needs) (λ c. search needs) (λ c. omega (arith, given c .few)) choose-requires (λ c κs. search needs)
     (λ c. search needs) returns slice-read-i mul-count-of (λ c. first (c .before .before .before)) count-of-requires (λ c κs. search needs)
     (λ c κs. search needs) (λ c. search needs) returns-2 returns-3 (λ c. search needs) returns-4)

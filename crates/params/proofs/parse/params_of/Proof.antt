@@ -12,11 +12,11 @@ use Rattle.params.proofs.parse.params_of.Statement.{statement}
 use Rattle.params.proofs.parse.params_of.Tie as tie
 
 -- the command's TLV ends with the lent bytes
-whole : (c : tie.Else2) → fills (now (c .before .before .before .before .args .s)) ≡ true
+whole : (c : tie.Else2) → fills (now (c .before .before .before .before .before .args .s)) ≡ true
 whole c = sym (c .before .is-whole .ensures) ∙ not-false _ (c .if2 .left)
 
-place : (c : tie.Else2) → 4 ≤ length (now (c .before .before .before .before .args .s))
-place c = whole-place (now (c .before .before .before .before .args .s)) (whole c)
+place : (c : tie.Else2) → 4 ≤ length (now (c .before .before .before .before .before .args .s))
+place c = whole-place (now (c .before .before .before .before .before .args .s)) (whole c)
 
 returns : tie.Need-returns
 returns c = read-broken (broken-long _ _ (c .before .if1 .taken)) (c .no-params .ensures)
@@ -28,11 +28,12 @@ returns-2 c =
 
 returns-3 : tie.Need-returns-3
 returns-3 c =
-    let w = c .before .before in
-    c .read-children .ensures .answers _ (w .before .before .if1 .left) (whole w) (rest-part (now (w .before .before .before .before .args .s)))
+    let r = c .before .before in
+    let w = r .before .before .before in
+    r .read-children .ensures .answers _ (w .before .before .if1 .left) (whole w) (rest-part (now (w .before .before .before .before .before .args .s)))
 
 pub params-of-spec : {M : Type 1} → statement M
 params-of-spec =
     tie.close
     (tie.spec (λ c κs. search needs) returns (λ c κs. search needs) (λ c κs. search needs) returns-2 place place (λ c. search needs)
-    (λ c κs. search needs) returns-3)
+    (λ c κs. search needs) (λ c. search needs) returns-3)
