@@ -16,6 +16,8 @@ ENTRIES = ("command", "complete", "signed_part", "read_fields")
 # How the name of a case ends that is a command on a table, and what heads the column of that kind.
 KINDS = {"": "random, 12", ", long names": "random, 128", ", alike": "alike, 12", ", alike, long names": "alike, 128"}
 ON_TABLE = re.compile(rf"(.*), (\d+) records?({'|'.join(KINDS)})$")
+# The case whose KeyIDs and mixed tokens someone would have to choose. It is told beside the worst ratio and not counted in it.
+CHOSEN = "GetInfo: 32 records, sums alike"
 FIGURES = ["token ns", "peer ns", "token / peer", "floor ns", "token instructions", "peer instructions"]
 
 
@@ -49,7 +51,7 @@ class Row:
         self.on_table = ON_TABLE.match(self.case)
 
     def is_command(self):
-        return self.on_table is not None or self.case.startswith("refused:")
+        return self.on_table is not None or self.case.startswith(("refused:", CHOSEN))
 
     def figures(self):
         floor = nanoseconds(self.floor) if self.floor else "–"
@@ -133,7 +135,7 @@ def report(bench, archive, rows):
     yield ""
     yield from commands(rows)
     yield ""
-    yield "Refused commands, completion and reader:"
+    yield "A command on KeyIDs and mixed tokens of one sum, refused commands, completion and reader:"
     yield ""
     yield from listed([row for row in rows if not row.on_table])
     yield ""
@@ -143,8 +145,9 @@ def report(bench, archive, rows):
     yield ""
     yield f"Text of the archive: {text_size(archive):,} bytes."
     yield ""
-    worst = max(rows, key=lambda row: row.ratio)
-    yield f"Worst ratio: {worst.ratio:.2f} ({worst.case})."
+    worst = max((row for row in rows if row.case != CHOSEN), key=lambda row: row.ratio)
+    [chosen] = [row for row in rows if row.case == CHOSEN]
+    yield f"Worst ratio: {worst.ratio:.2f} ({worst.case}); of KeyIDs and mixed tokens chosen to have one sum: {chosen.ratio:.2f}."
 
 
 def write(name, text):

@@ -137,6 +137,13 @@ fn commands() -> Vec<Case> {
     cases
 }
 
+/// On a full table the KeyIDs and mixed tokens that are the hardest to tell apart.
+fn hardest() -> Case {
+    let full = Setting::new(32, Ids::OfOneSum, SHORT);
+    let call = Call::Command(command_call(GET_INFO, &full));
+    served("GetInfo: 32 records, sums alike".to_string(), call)
+}
+
 /// A table that is wrong only at the end of its last record, and one byte too little room for it.
 fn refused_commands() -> Vec<Case> {
     let full = Setting::new(32, Ids::Random, SHORT);
@@ -268,6 +275,7 @@ fn both_readings(name: &str, response: &[u8], refusal: u32) -> Vec<Case> {
 /// All cases, in the order in which they are reported.
 pub fn all(desk: &Desk) -> Vec<Case> {
     let mut cases = commands();
+    cases.push(hardest());
     cases.extend(refused_commands());
     for (name, call) in completions(desk) {
         cases.push(served(format!("complete: {}", name), call));

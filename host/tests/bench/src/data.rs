@@ -37,6 +37,9 @@ pub enum Ids {
     Random,
     /// They are equal but for the last byte, as counters are.
     Alike,
+    /// They differ, and the sums of their words are the same, which only someone who chooses them brings about: a filter that adds up the words
+    /// then tells no two of them apart.
+    OfOneSum,
 }
 
 impl Ids {
@@ -46,6 +49,11 @@ impl Ids {
             Ids::Alike => {
                 let mut id = noise(32, seed);
                 id[31] = number as u8;
+                id
+            }
+            Ids::OfOneSum => {
+                let mut id = noise(32, seed);
+                (id[0], id[4]) = (number as u8, 255 - number as u8);
                 id
             }
         }
