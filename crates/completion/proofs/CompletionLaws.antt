@@ -3,16 +3,16 @@
 use mathlib.Core.Path.{_≡_, refl, sym, ap, _∙_}
 use mathlib.Core.Bool.{Bool, true, false, cond, _&&_, _||_, or-false}
 use mathlib.Core.List.{List, []}
-use Prim.Native.Nat.{ℕ, _+_, _≤_}
+use Prim.Native.Nat.{ℕ, _+_, _≤_, _<_}
 use native.Mathlib.Omega.{arith}
 use lib.ListN.{length}
-use lib.Dec.{ltb, eqb}
-use borrow.Author.Tests.{ltb-false, eq-eqb, ne-eqb, eqb-true}
+use lib.Dec.{eqb}
+use borrow.Author.Tests.{lt-ltb, le-ltb, eq-eqb, ne-eqb, eqb-true}
 use Rattle.model.specs.Lists.{empty}
 use Rattle.model.specs.Tlv.{le, fits, signature, certificate, full, surrogate}
 use Rattle.model.specs.Layouts.{end, reads}
 use Rattle.model.specs.Commands.{judge, Result, refused, gave, keyRegistrationData, signedData, leastOutput}
-use Rattle.model.specs.Complete.{Completion, draftsOf, isDraft, completionOk, completed, completionChecks, complete}
+use Rattle.model.specs.Complete.{Completion, draftsOf, isDraft, completionOk, completed, complete}
 use Rattle.model.proofs.Basics.{split, clash, and-left, and-right}
 use Rattle.model.proofs.LayoutLaws.{most, fits-most}
 use Rattle.model.proofs.LayoutWritten.{any-found, each-member}
@@ -93,30 +93,20 @@ pub record Passes (x : Completion) : Type 0 where
   pub draft : isDraft (x .kind) (x .draft) ≡ true
   pub seal : completionOk x ≡ true
 
--- by the first refusal, or 0
-module _ (x : Completion) {short draftOk lentOk : Bool} {r : ℕ} (s : ltb (x .output) leastOutput ≡ short)
-    (d : isDraft (x .kind) (x .draft) ≡ draftOk) (l : completionOk x ≡ lentOk) (e : r ≡ judge (completionChecks short draftOk lentOk) (λ n. n) 0) where
-  pub refuses : (r ≡ 0 → ⊥) → complete x ≡ refused r
+-- the first that fails says which refusal it is
+module _ (x : Completion) where
+  pub refused-short : x .output < leastOutput → complete x ≡ refused 1
   unfolding complete judge
-  refuses h = rw (s, d, l) (go short draftOk lentOk e)
-    where
-      go : (a b c : Bool) → r ≡ judge (completionChecks a b c) (λ n. n) 0
-          → judge (completionChecks a b c) refused (gave (completed x)) ≡ refused r
-      go true b c e = ap refused (sym e)
-      go false false c e = ap refused (sym e)
-      go false true false e = ap refused (sym e)
-      go false true true e = absurd (h e)
+  refused-short h = rw (lt-ltb _ _ h)
 
-  pub passes : r ≡ 0 → Passes x
-  unfolding judge
-  passes z = go short draftOk lentOk s d l e
-    where
-      go : (a b c : Bool) → ltb (x .output) leastOutput ≡ a → isDraft (x .kind) (x .draft) ≡ b → completionOk x ≡ c
-          → r ≡ judge (completionChecks a b c) (λ n. n) 0 → Passes x
-      go true b c s d l e = absurd (omega arith)
-      go false false c s d l e = absurd (omega arith)
-      go false true false s d l e = absurd (omega arith)
-      go false true true s d l e = record { room = ltb-false _ _ s; draft = d; seal = l }
+  module _ (h : leastOutput ≤ x .output) where
+    pub refused-draft : isDraft (x .kind) (x .draft) ≡ false → complete x ≡ refused 5
+    unfolding complete judge
+    refused-draft d = rw (le-ltb _ _ h, d)
+
+    pub refused-lent : isDraft (x .kind) (x .draft) ≡ true → completionOk x ≡ false → complete x ≡ refused 4
+    unfolding complete judge
+    refused-lent d l = rw (le-ltb _ _ h, d, l)
 
 module _ {x : Completion} (p : Passes x) where
   -- the room that its parts take: 628 and 512 bytes at most, and a certificate's 2,048

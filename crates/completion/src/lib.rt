@@ -17,8 +17,7 @@ use layouts::after_signed;
 ghost use mathlib.Core.Path.{_≡_};
 ghost use mathlib.Core.List.{[]};
 ghost use lib.ListN.{length};
-ghost use Rattle.model.specs.Commands.{judge};
-ghost use Rattle.model.specs.Complete.{isDraft, completionOk, completionChecks, complete};
+ghost use Rattle.model.specs.Complete.{isDraft, completionOk, complete};
 ghost use Rattle.fields.specs.Refusals.{ended, ends};
 ghost use Rattle.completion.specs.Completions.{completion};
 
@@ -59,23 +58,7 @@ fn completion_ok(kind: u32, attestation: usize, signature: &[u8], certificate: &
     false
 }
 
-// The first refusal: 1 for a short output, 5 for a draft that no command can write, 4 for what is lent with it; 0 if there is none.
-fn refusal_of(short: bool, draft_ok: bool, lent_ok: bool) -> u32
-    ensures { λ r. ⌜ r ≡ judge (completionChecks short «draft_ok» «lent_ok») (λ n. n) 0 ⌝ }
-{
-    if short {
-        return SHORT_OUTPUT;
-    }
-    if !draft_ok {
-        return NOT_WRITTEN;
-    }
-    if !lent_ok {
-        return WRONG_LENT;
-    }
-    0
-}
-
-// Completes a draft.
+// Completes a draft: the refusals in document 01's order, then the response of its kind.
 pub fn complete(
     kind: u32,
     draft: &[u8],
@@ -91,11 +74,14 @@ pub fn complete(
         (completion kind (now (draft .entry)) attestation (now (signature .entry)) (now (certificate .entry)) (length (now (out .entry)))))
         (now (out .entry)) ⌝ }
 {
-    let draft_ok = is_draft(kind, draft);
-    let lent_ok = completion_ok(kind, attestation, signature, certificate);
-    let refusal = refusal_of(out.len() < LEAST_OUTPUT, draft_ok, lent_ok);
-    if refusal != 0 {
-        return Written::Refused(refusal);
+    if out.len() < LEAST_OUTPUT {
+        return Written::Refused(SHORT_OUTPUT);
+    }
+    if !is_draft(kind, draft) {
+        return Written::Refused(NOT_WRITTEN);
+    }
+    if !completion_ok(kind, attestation, signature, certificate) {
+        return Written::Refused(WRONG_LENT);
     }
     if kind == SIGN {
         return Written::Wrote(put_sign(out, draft, signature));

@@ -20,7 +20,7 @@ fn same_word(a: &[u8], p: usize, b: &[u8], q: usize, before: bool) -> bool
     before
 }
 
-// Whether two rows are the same. All four numbers of 8 bytes are looked at, whatever the first of them say, so that the time does not go by the bytes.
+// Whether two rows are the same, by four numbers of 8 bytes.
 pub fn same_row(a: &[u8], p: usize, b: &[u8], q: usize) -> bool
     requires { ⌜ (p + 32 ≤ length (now a)) × (q + 32 ≤ length (now b)) ⌝ }
     ensures { λ r. ⌜ r ≡ eqBytes (row p (now (a .entry))) (row q (now (b .entry))) ⌝ }

@@ -37,8 +37,8 @@ pub enum Ids {
     Random,
     /// They are equal but for the last byte, as counters are.
     Alike,
-    /// They differ, and the sums of their words are the same, which only someone who chooses them brings about: a filter that adds up the words
-    /// then tells no two of them apart.
+    /// They are equal but for two of the last bytes, and the sums of their words are the same, which only someone who chooses them brings about:
+    /// neither a look at the first bytes nor a filter that adds up the words tells two of them apart.
     OfOneSum,
 }
 
@@ -53,7 +53,7 @@ impl Ids {
             }
             Ids::OfOneSum => {
                 let mut id = noise(32, seed);
-                (id[0], id[4]) = (number as u8, 255 - number as u8);
+                (id[24], id[28]) = (number as u8, 255 - number as u8);
                 id
             }
         }
