@@ -15,8 +15,8 @@
  * of an output beyond the length written are as they were. Entries keep nothing between calls, so they may run at the same time.
  *
  * What they need. The archive is for x86-64, ELF, the System V calling convention. It calls no function outside itself, not even of the C
- * library; it has no data that is written, uses no heap and makes no system call. A command takes about 2 KB of stack, completion and reader
- * about 1. */
+ * library; it has no data that is written, uses no heap and makes no system call. A command takes less than 2 KB of stack, completion and reader
+ * less than 1. */
 #ifndef UAF_TOKEN_H
 #define UAF_TOKEN_H
 

@@ -10,6 +10,7 @@ use params::kinds::Named;
 use params::kinds::kind_of;
 use params::lent::Numbers;
 use params::lent::lent_ok;
+use params::parse::MOST_HANDLES;
 use params::parse::params_of;
 use replies::write::reply_len;
 use replies::write::write_reply;
@@ -70,7 +71,7 @@ fn perform(
         (tableIn (now (table .entry)))))
         (outputsOf (now (response .entry)) (now («table_out» .entry))) ⌝ }
 {
-    let mut handles = [0usize; MAX_OWN];
+    let mut handles = [0usize; MOST_HANDLES];
     let params = params_of(command, kind, &mut handles);
     let mut chosen = [0usize; MAX_OWN];
     let decision = decide(

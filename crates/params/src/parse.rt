@@ -29,6 +29,9 @@ pub struct Params {
     pub handles: usize,
 }
 
+// "key handle 32 .., at most 8 of them": how many places are lent for them.
+pub const MOST_HANDLES: usize = 8;
+
 // The answer to a command that breaks a rule.
 fn no_params() -> Params
     ensures { λ r. ⌜ r ≡ noParams ⌝ }

@@ -24,6 +24,14 @@ abbrev μ-loop : tie.MeasureT-loop
 loop-holds : tie.Need-loop-holds Inv-loop μ-loop
 loop-holds c = (refl, left-none _ _ _ (tableIn (now (c .before .before .before .before .before .args .table))))
 
+loop-again : tie.Need-loop-again Inv-loop μ-loop
+loop-again c =
+    let p = c .before .before in
+    let g = p .before .before .before in
+    let l = g .before .before in
+    let s = l .before .before .before .before .before .before in
+    (search needs, left-more (now (s .args .mixed)) (now (s .args .key)) (s .pre .0) (l .loop .i) (l .loop .inv .1) (g .next-going .ensures) (same (p .before .stored-from .ensures) refl (p .put-bytes .ensures)))
+
 next-going-requires : tie.Need-next-going-requires Inv-loop μ-loop
 next-going-requires c κs = (c .before .before .before .before .before .before .before .pre .0, omega arith)
 
@@ -46,14 +54,6 @@ add-i c =
 
 loop-less : tie.Need-loop-less Inv-loop μ-loop
 loop-less c = let g = c .before .before .before .before .before in omega (arith, g .next-going .ensures)
-
-loop-again : tie.Need-loop-again Inv-loop μ-loop
-loop-again c =
-    let p = c .before .before in
-    let g = p .before .before .before in
-    let l = g .before .before in
-    let s = l .before .before .before .before .before .before in
-    (search needs, left-more (now (s .args .mixed)) (now (s .args .key)) (s .pre .0) (l .loop .i) (l .loop .inv .1) (g .next-going .ensures) (same (p .before .stored-from .ensures) refl (p .put-bytes .ensures)))
 
 returns : tie.Need-returns Inv-loop μ-loop
 returns c =
