@@ -10,7 +10,7 @@ use lib.Seq.{take-all}
 use lib.Dec.{leb}
 use borrow.Author.Tests.{leb-true}
 use Rattle.model.specs.Lists.{any}
-use Rattle.model.specs.Tlv.{tagOf, ok, username, keyHandle}
+use Rattle.model.specs.Tlv.{tagOf, username, keyHandle}
 use Rattle.model.specs.Layouts.{reads}
 use Rattle.model.specs.Commands.{namePairs, nameList}
 use Rattle.model.specs.Reader.{Part, fieldParts, listLengths}
@@ -20,7 +20,7 @@ use Rattle.model.proofs.ResponseWitness.{pairs-plain}
 use Rattle.tlv.specs.Numbers.{numAt, NumberAt}
 use Rattle.tlv.specs.Firsts.{firsts}
 use Rattle.response_reader.specs.Met.{partAt}
-use Rattle.response_reader.specs.Readings.{column, columns, partsOf}
+use Rattle.response_reader.specs.Readings.{Columns, column, columns, partsOf}
 use Rattle.response_reader.specs.Laid.{fieldsFrom, Lies, statusRow}
 use Rattle.response_reader.proofs.LaidLaws.{fields-laid, lies, lies-before}
 
@@ -100,14 +100,15 @@ pub record Naming (s tags places lengths : List ℕ) (len at : ℕ) : Type 0 whe
   pub places-are : places ≡ column (λ p. p .place) so-far
   pub lengths-are : lengths ≡ column (λ p. p .size) so-far
 
-pub naming-start : (s : List ℕ) → any (λ n. reads (nameList n) s) listLengths ≡ true → let none : List ℕ = firsts 0 17 [] in
-    Naming s (set none 0 (tagOf ok)) (set none 0 8) (set none 0 2) 1 10
-unfolding firsts
-naming-start s e =
+pub naming-start : (s : List ℕ) {tags places lengths : List ℕ} {len : ℕ} → any (λ n. reads (nameList n) s) listLengths ≡ true
+    → columns tags places lengths len ≡ partsOf (statusRow ∷ []) → Naming s tags places lengths len 10
+unfolding partsOf
+naming-start s {len = len} e c =
     let (n, m, r) = any-found (λ n. reads (nameList n) s) listLengths e in
     let k : n ≤ 8 = leb-true _ _ (all-member (λ n. leb n 8) m refl) in
     let i = lies (nameList n) s r in
     let z : 4 + numAt 2 s 2 ≡ length s = i .1 in
+    let one : len ≡ 1 = ap (λ (x : Columns). x .len) c in
     record {
       so-far = statusRow ∷ [];
       pairs =
@@ -117,10 +118,10 @@ naming-start s e =
             lie = rw z at (i .0 .1);
             few = omega arith;
           };
-      number = refl;
-      tags-are = refl;
-      places-are = refl;
-      lengths-are = refl;
+      number = sym one;
+      tags-are = ap (λ (x : Columns). x .tags) c;
+      places-are = ap (λ (x : Columns). x .places) c;
+      lengths-are = ap (λ (x : Columns). x .lengths) c;
     }
 
 module _ {s tags places lengths : List ℕ} {len at : ℕ} (g : Naming s tags places lengths len at) where

@@ -16,66 +16,40 @@ ghost use Rattle.response_reader.specs.Laid.{statusRow, infoRows};
 // The most fields that a response has.
 pub const MOST_FIELDS: usize = 17;
 
-// The tags of the fields of GetInfo's response, of a completed registration up to its signature and of a completed Sign.
-const INFO_TAGS: [usize; MOST_FIELDS] = [
-    tags::STATUS_CODE,
-    tags::API_VERSION,
-    tags::AUTHENTICATOR_INDEX,
-    tags::AAID,
-    tags::METADATA,
-    tags::TC_DISPLAY_CONTENT_TYPE,
-    tags::ASSERTION_SCHEME,
-    tags::ATTESTATION_TYPE,
-    tags::ATTESTATION_TYPE,
-    0,
-    0,
-    0,
-    0,
-    0,
-    0,
-    0,
-    0,
-];
-
-const REGISTERED_TAGS: [usize; MOST_FIELDS] = [
-    tags::STATUS_CODE,
-    tags::AAID,
-    tags::ASSERTION_INFO,
-    tags::FINAL_CHALLENGE_HASH,
-    tags::KEYID,
-    tags::COUNTERS,
-    tags::PUB_KEY,
-    tags::SIGNATURE,
-    0,
-    0,
-    0,
-    0,
-    0,
-    0,
-    0,
-    0,
-    0,
-];
-
-const SIGNED_TAGS: [usize; MOST_FIELDS] = [
-    tags::STATUS_CODE,
-    tags::AAID,
-    tags::ASSERTION_INFO,
-    tags::NONCE,
-    tags::FINAL_CHALLENGE_HASH,
-    tags::TRANSACTION_CONTENT_HASH,
-    tags::KEYID,
-    tags::COUNTERS,
-    tags::SIGNATURE,
-    0,
-    0,
-    0,
-    0,
-    0,
-    0,
-    0,
-    0,
-];
+// The column of nine numbers, more than which only a list of names has. Entries past them are 0.
+fn padded(
+    one: usize,
+    two: usize,
+    three: usize,
+    four: usize,
+    five: usize,
+    six: usize,
+    seven: usize,
+    eight: usize,
+    nine: usize,
+) -> [usize; MOST_FIELDS]
+    ensures { λ r. ⌜ r ≡ (one ∷ two ∷ three ∷ four ∷ five ∷ six ∷ seven ∷ eight ∷ nine ∷ 0 ∷ 0 ∷ 0 ∷ 0 ∷ 0 ∷ 0 ∷ 0 ∷ 0 ∷ []) ⌝ }
+{
+    [
+        one,
+        two,
+        three,
+        four,
+        five,
+        six,
+        seven,
+        eight,
+        nine,
+        0,
+        0,
+        0,
+        0,
+        0,
+        0,
+        0,
+        0,
+    ]
+}
 
 // The columns of a status alone.
 fn status_field(
@@ -102,14 +76,24 @@ fn info_fields(
 ) -> usize
     ensures { λ r. ⌜ columns (now (tags .exit)) (now (places .exit)) (now (lengths .exit)) r ≡ partsOf infoRows ⌝ }
 {
-    *tags = INFO_TAGS;
-    *places = [8, 14, 23, 28, 41, 60, 74, 86, 92, 0, 0, 0, 0, 0, 0, 0, 0];
-    *lengths = [2, 1, 1, 9, 15, 10, 8, 2, 2, 0, 0, 0, 0, 0, 0, 0, 0];
+    *tags = padded(
+        tags::STATUS_CODE,
+        tags::API_VERSION,
+        tags::AUTHENTICATOR_INDEX,
+        tags::AAID,
+        tags::METADATA,
+        tags::TC_DISPLAY_CONTENT_TYPE,
+        tags::ASSERTION_SCHEME,
+        tags::ATTESTATION_TYPE,
+        tags::ATTESTATION_TYPE,
+    );
+    *places = padded(8, 14, 23, 28, 41, 60, 74, 86, 92);
+    *lengths = padded(2, 1, 1, 9, 15, 10, 8, 2, 2);
     9
 }
 
-// The columns of a completed registration. Read are the lengths of challenge hash, public key and signature, n, m and k, and KRD's; all others are
-// known, and a certificate reaches to the end.
+// The columns of a completed registration. Read are the lengths of challenge hash, public key and signature, and KRD's; all others are known, and a
+// certificate reaches to the end.
 fn registered_fields(
     s: &[u8],
     tags: &mut [usize; MOST_FIELDS],
@@ -119,18 +103,28 @@ fn registered_fields(
     requires { ⌜ (reads (registered full (signature ∷ certificate ∷ [])) (now s) || reads (registered surrogate (signature ∷ [])) (now s)) ≡ true ⌝ }
     ensures { λ r. ⌜ columns (now (tags .exit)) (now (places .exit)) (now (lengths .exit)) r ≡ partsOf (fieldParts (now (s .entry))) ⌝ }
 {
-    let n = get16(s, 48);
-    let id = 50 + n + 4;
-    let cnt = id + 32 + 4;
-    let m = get16(s, cnt + 8 + 2);
-    let key = cnt + 8 + 4;
+    let hash_len = get16(s, 48);
+    let id = 50 + hash_len + 4;
+    let counts = id + 32 + 4;
+    let key_len = get16(s, counts + 8 + 2);
+    let key = counts + 8 + 4;
     let next = 22 + get16(s, 20) + 4;
-    let k = get16(s, next + 2);
+    let sig_len = get16(s, next + 2);
     let sig = next + 4;
-    let end = sig + k;
-    *tags = REGISTERED_TAGS;
-    *places = [8, 26, 39, 50, id, cnt, key, sig, 0, 0, 0, 0, 0, 0, 0, 0, 0];
-    *lengths = [2, 9, 7, n, 32, 8, m, k, 0, 0, 0, 0, 0, 0, 0, 0, 0];
+    let end = sig + sig_len;
+    *tags = padded(
+        tags::STATUS_CODE,
+        tags::AAID,
+        tags::ASSERTION_INFO,
+        tags::FINAL_CHALLENGE_HASH,
+        tags::KEYID,
+        tags::COUNTERS,
+        tags::PUB_KEY,
+        tags::SIGNATURE,
+        0,
+    );
+    *places = padded(8, 26, 39, 50, id, counts, key, sig, 0);
+    *lengths = padded(2, 9, 7, hash_len, 32, 8, key_len, sig_len, 0);
     if end == s.len() {
         return 8;
     }
@@ -140,8 +134,8 @@ fn registered_fields(
     9
 }
 
-// The columns of a completed Sign. Read are the lengths of nonce, challenge hash and content hash, n, m and k, and SIGNED_DATA's; the signature
-// reaches to the end.
+// The columns of a completed Sign. Read are the lengths of nonce, challenge hash and content hash, and SIGNED_DATA's; the signature reaches to the
+// end.
 fn signed_fields(
     s: &[u8],
     tags: &mut [usize; MOST_FIELDS],
@@ -151,22 +145,32 @@ fn signed_fields(
     requires { ⌜ (reads (signed true) (now s) || reads (signed false) (now s)) ≡ true ⌝ }
     ensures { λ r. ⌜ columns (now (tags .exit)) (now (places .exit)) (now (lengths .exit)) r ≡ partsOf (fieldParts (now (s .entry))) ⌝ }
 {
-    let n = get16(s, 46);
-    let m = get16(s, 48 + n + 2);
-    let ch = 48 + n + 4;
-    let k = get16(s, ch + m + 2);
-    let tc = ch + m + 4;
-    let id = tc + k + 4;
-    let cnt = id + 32 + 4;
+    let nonce_len = get16(s, 46);
+    let hash_len = get16(s, 48 + nonce_len + 2);
+    let hash = 48 + nonce_len + 4;
+    let shown_len = get16(s, hash + hash_len + 2);
+    let shown = hash + hash_len + 4;
+    let id = shown + shown_len + 4;
+    let counts = id + 32 + 4;
     let sig = 22 + get16(s, 20) + 4;
-    *tags = SIGNED_TAGS;
-    *places = [8, 26, 39, 48, ch, tc, id, cnt, sig, 0, 0, 0, 0, 0, 0, 0, 0];
-    let rest = s.len() - sig;
-    *lengths = [2, 9, 5, n, m, k, 32, 4, rest, 0, 0, 0, 0, 0, 0, 0, 0];
+    let sig_len = s.len() - sig;
+    *tags = padded(
+        tags::STATUS_CODE,
+        tags::AAID,
+        tags::ASSERTION_INFO,
+        tags::NONCE,
+        tags::FINAL_CHALLENGE_HASH,
+        tags::TRANSACTION_CONTENT_HASH,
+        tags::KEYID,
+        tags::COUNTERS,
+        tags::SIGNATURE,
+    );
+    *places = padded(8, 26, 39, 48, hash, shown, id, counts, sig);
+    *lengths = padded(2, 9, 5, nonce_len, hash_len, shown_len, 32, 4, sig_len);
     9
 }
 
-// The columns of a list of names: two rows for each pair.
+// The columns of a list of names: the status, and two rows for each pair.
 fn name_fields(
     s: &[u8],
     tags: &mut [usize; MOST_FIELDS],
@@ -176,13 +180,7 @@ fn name_fields(
     requires { ⌜ any (λ n. reads (nameList n) (now s)) listLengths ≡ true ⌝ }
     ensures { λ r. ⌜ columns (now (tags .exit)) (now (places .exit)) (now (lengths .exit)) r ≡ partsOf (fieldParts (now (s .entry))) ⌝ }
 {
-    *tags = [0usize; MOST_FIELDS];
-    *places = [0usize; MOST_FIELDS];
-    *lengths = [0usize; MOST_FIELDS];
-    tags[0] = tags::STATUS_CODE;
-    places[0] = 8;
-    lengths[0] = 2;
-    let mut len = 1;
+    let mut len = status_field(tags, places, lengths);
     let mut at = 10;
     while at < s.len() {
         let n = get16(s, at + 4 + 2);

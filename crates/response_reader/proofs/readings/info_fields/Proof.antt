@@ -1,4 +1,5 @@
 -- The fields of the layout, whose places all compute.
+use borrow.Author.Needs.{needs}
 use mathlib.Core.Path.{refl}
 use Rattle.model.specs.Tlv.{le}
 use Rattle.tlv.specs.Firsts.{firsts}
@@ -8,7 +9,7 @@ use Rattle.response_reader.proofs.readings.info_fields.Tie as tie
 
 returns : tie.Need-returns
 unfolding firsts partsOf le
-returns c = refl
+returns c = rw (c .before .before .padded .ensures, c .before .padded2 .ensures, c .padded3 .ensures) refl
 
 pub info-fields-spec : {M : Type 1} → statement M
-info-fields-spec = tie.close (tie.spec returns)
+info-fields-spec = tie.close (tie.spec (λ c κs. search needs) (λ c κs. search needs) (λ c κs. search needs) returns)

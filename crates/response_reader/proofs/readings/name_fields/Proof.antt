@@ -4,7 +4,6 @@ use native.Mathlib.Omega.{arith}
 use denote.Ref.{now}
 use Prim.Native.Nat.{_-_}
 use lib.ListN.{length}
-use Rattle.tlv.specs.Firsts.{firsts}
 use Rattle.response_reader.proofs.NamingLaws.{Naming, Turn, naming-start, naming-turn, naming-next, naming-all}
 use Rattle.response_reader.proofs.readings.name_fields.Statement.{statement}
 use Rattle.response_reader.proofs.readings.name_fields.Tie as tie
@@ -17,12 +16,11 @@ abbrev μ-loop : tie.MeasureT-loop
 
 -- a pair stands there, and there is room for its two rows
 there : (c : tie.After-get16 Inv-loop μ-loop) → let l = c .before .before in
-    Turn (now (l .before .before .before .before .before .args .s)) (l .loop .len) (l .loop .at)
+    Turn (now (l .before .before .before .before .before .before .args .s)) (l .loop .len) (l .loop .at)
 there c = naming-turn (c .before .before .loop .inv) (c .before .loop-test .taken)
 
 loop-holds : tie.Need-loop-holds Inv-loop μ-loop
-unfolding firsts
-loop-holds c = naming-start _ (c .before .before .before .before .pre)
+loop-holds c = naming-start _ (c .before .before .before .before .before .pre) (c .status-field .ensures)
 
 get16-requires : tie.Need-get16-requires Inv-loop μ-loop
 get16-requires c κs = omega (arith, naming-turn (c .before .loop .inv) (c .loop-test .taken))
@@ -47,7 +45,7 @@ returns c = naming-all (c .before .loop .inv) (c .loop-test .left)
 pub name-fields-spec : {M : Type 1} → statement M
 name-fields-spec =
     tie.close
-    (tie.spec Inv-loop μ-loop (λ c. search needs) (λ c. search needs) (λ c. search needs) loop-holds (λ c. search needs)
+    (tie.spec Inv-loop μ-loop (λ c κs. search needs) loop-holds (λ c. search needs)
     (λ c. search needs) get16-requires (λ c. omega (arith, there c)) (λ c. omega (arith, there c)) (λ c. omega (arith, there c))
     (λ c. omega (arith, there c)) (λ c. omega (arith, there c)) (λ c. omega (arith, there c)) (λ c. omega (arith, there c))
     (λ c. omega (arith, there c)) (λ c. omega (arith, there c)) (λ c. omega (arith, there c)) (λ c. omega (arith, there c))

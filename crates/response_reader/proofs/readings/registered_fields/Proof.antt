@@ -23,27 +23,39 @@ get16-requires-4 c κs = omega (arith, registered-lies _ (c .before .before .bef
 returns : tie.Need-returns
 unfolding firsts partsOf
 returns c =
-    let g = c .before .before .before in
-    rw (surrogate-rows (g .before .before .before .before .before .pre) (g .before .before .before .get16 .ensures) (g .before .before .get162 .ensures)
-    (g .before .get163 .ensures) (g .get164 .ensures) (c .if1 .taken)) refl
+    let p = c .before in
+    let g = p .before .before .before in
+    rw (
+      surrogate-rows (g .before .before .before .before .before .pre) (g .before .before .before .get16 .ensures) (g .before .before .get162 .ensures)
+          (g .before .get163 .ensures) (g .get164 .ensures) (c .if1 .taken),
+      p .before .before .padded .ensures,
+      p .before .padded2 .ensures,
+      p .padded3 .ensures,
+    ) refl
 
 sub-lengths : tie.Need-sub-lengths
 sub-lengths c =
-    let g = c .before .before .before in
+    let g = c .before .before .before .before in
     certificate-there (g .before .before .before .before .before .pre) (g .before .before .before .get16 .ensures)
     (g .before .before .get162 .ensures) (g .before .get163 .ensures) (g .get164 .ensures) (c .if1 .left)
 
 returns-2 : tie.Need-returns-2
 unfolding firsts partsOf
 returns-2 c =
-    let g = c .before .before .before in
-    rw (full-rows (g .before .before .before .before .before .pre) (g .before .before .before .get16 .ensures) (g .before .before .get162 .ensures)
-    (g .before .get163 .ensures) (g .get164 .ensures) (c .if1 .left)) refl
+    let p = c .before in
+    let g = p .before .before .before in
+    rw (
+      full-rows (g .before .before .before .before .before .pre) (g .before .before .before .get16 .ensures) (g .before .before .get162 .ensures)
+          (g .before .get163 .ensures) (g .get164 .ensures) (c .if1 .left),
+      p .before .before .padded .ensures,
+      p .before .padded2 .ensures,
+      p .padded3 .ensures,
+    ) refl
 
 pub registered-fields-spec : {M : Type 1} → statement M
 registered-fields-spec =
     tie.close
     (tie.spec get16-requires (λ c. search needs) (λ c. search needs) (λ c. search needs) (λ c. search needs) (λ c. search needs)
     (λ c. search needs) get16-requires-2 (λ c. search needs) (λ c. search needs) get16-requires-3 (λ c. search needs) (λ c. search needs)
-    (λ c. search needs) get16-requires-4 (λ c. search needs) (λ c. search needs) returns (λ c. search needs) (λ c. search needs)
+    (λ c. search needs) get16-requires-4 (λ c. search needs) (λ c. search needs) (λ c κs. search needs) (λ c κs. search needs) (λ c κs. search needs) returns (λ c. search needs) (λ c. search needs)
     (λ c. search needs) (λ c. search needs) sub-lengths (λ c. search needs) returns-2)

@@ -20,19 +20,25 @@ get16-requires-3 c κs = omega (arith, content-there (c .before .before .before 
 get16-requires-4 : tie.Need-get16-requires-4
 get16-requires-4 c κs = omega (arith, signed-lies _ (c .before .before .before .before .pre))
 
-sub-rest : tie.Need-sub-rest
-sub-rest c = omega (arith, signed-lies _ (c .before .before .before .before .before .before .pre), c .before .get164 .ensures .value)
+sub-sig-len : tie.Need-sub-sig-len
+sub-sig-len c = omega (arith, signed-lies _ (c .before .before .before .before .before .pre), c .get164 .ensures .value)
 
 returns : tie.Need-returns
 unfolding firsts partsOf
 returns c =
-    let g = c .before .before in
-    rw (signed-rows (g .before .before .before .before .before .pre) (g .before .before .before .get16 .ensures)
-    (g .before .before .get162 .ensures) (g .before .get163 .ensures) (g .get164 .ensures)) refl
+    let g = c .before .before .before in
+    rw (
+      signed-rows (g .before .before .before .before .before .pre) (g .before .before .before .get16 .ensures)
+          (g .before .before .get162 .ensures) (g .before .get163 .ensures) (g .get164 .ensures),
+      c .before .before .padded .ensures,
+      c .before .padded2 .ensures,
+      c .padded3 .ensures,
+    ) refl
 
 pub signed-fields-spec : {M : Type 1} → statement M
 signed-fields-spec =
     tie.close
     (tie.spec get16-requires (λ c. search needs) (λ c. search needs) get16-requires-2 (λ c. search needs) (λ c. search needs)
     (λ c. search needs) (λ c. search needs) get16-requires-3 (λ c. search needs) (λ c. search needs) (λ c. search needs) (λ c. search needs)
-    (λ c. search needs) (λ c. search needs) get16-requires-4 (λ c. search needs) (λ c. search needs) sub-rest returns)
+    (λ c. search needs) (λ c. search needs) get16-requires-4 (λ c. search needs) (λ c. search needs) sub-sig-len
+    (λ c κs. search needs) (λ c κs. search needs) (λ c κs. search needs) returns)
