@@ -101,14 +101,14 @@ module _ {s : List ℕ} {p : Params} (n : Numbers) (q : ParamsRead sign s p) {j 
     pub sign-placed : ParamsPlaced s p
     sign-placed = q .unless-broken sign-unbroken
 
-    pub handles-placed : {places : List ℕ} → HandlesRead sign s places (p .handles) → HandlesPlaced s places (p .handles)
+    pub handles-placed : {places : List ℕ} → HandlesRead sign s places (p .«handle_count») → HandlesPlaced s places (p .«handle_count»)
     handles-placed u = u .unless-broken sign-unbroken
 
-    pub chose : {m places : List ℕ} {t : records.Table} {cs : List ℕ} {k : ℕ} → HandlesRead sign s places (p .handles) → tableOk t ≡ true
-        → ChosenAre (positions (isChosen m (rows 0 (take (p .handles) places) s)) 0 t) cs k → Chose s n m t p cs k
+    pub chose : {m places : List ℕ} {t : records.Table} {cs : List ℕ} {k : ℕ} → HandlesRead sign s places (p .«handle_count») → tableOk t ≡ true
+        → ChosenAre (positions (isChosen m (rows 0 (take (p .«handle_count») places) s)) 0 t) cs k → Chose s n m t p cs k
     unfolding decide
     chose {m} {places} {t} {cs} {k} u ok h =
-        let hs : List (List ℕ) = rows 0 (take (p .handles) places) s in
+        let hs : List (List ℕ) = rows 0 (take (p .«handle_count») places) s in
         let r : records.Record = getD t (getD cs 0 0) noRecord in
         let are : recordsAt t (take k cs) ≡ chosen hs (own m t) = chosen-records m hs t (h .are) in
         let of : ChosenOf t (take k cs) = chosen-of m hs t (h .are) ok in

@@ -29,7 +29,7 @@ pub fn decide(
     places: &[usize],
     chosen: &mut [usize],
 ) -> Decision
-    requires { ⌜ ParamsRead (kindIs kind) (now command) params × HandlesRead (kindIs kind) (now command) (now handles) (params .handles) ⌝ }
+    requires { ⌜ ParamsRead (kindIs kind) (now command) params × HandlesRead (kindIs kind) (now command) (now handles) (params .«handle_count») ⌝ }
     requires { ⌜ (kindIs kind ≡ model.register → (length (now mixed) ≡ 32) × (length (now «key_id») ≡ 32)) ⌝ }
     requires { ⌜ Indexed (now table) (now places) × (length (now chosen) ≡ 8) ⌝ }
     ensures { λ r. ⌜

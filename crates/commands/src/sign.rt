@@ -89,7 +89,7 @@ pub fn sign(
     places: &[usize],
     chosen: &mut [usize],
 ) -> Decision
-    requires { ⌜ ParamsRead sign (now command) params × HandlesRead sign (now command) (now handles) (params .handles) ⌝ }
+    requires { ⌜ ParamsRead sign (now command) params × HandlesRead sign (now command) (now handles) (params .«handle_count») ⌝ }
     requires { ⌜ Indexed (now table) (now places) ⌝ }
     requires { ⌜ length (now chosen) ≡ 8 ⌝ }
     ensures { λ r. ⌜
@@ -100,7 +100,7 @@ pub fn sign(
     match judged {
         Judged::Fails(status) => only(status),
         Judged::Passes => {
-            let n = params.handles;
+            let n = params.handle_count;
             let named = choose(table, places, mixed, command, &handles[0..n], chosen);
             if named == 0 {
                 return only(ACCESS_DENIED);

@@ -1,6 +1,6 @@
 -- Completions: what a draft is and how long it can be, what is asked of its seal, and what the function gives.
 -- Assumes nothing.
-use mathlib.Core.Path.{_≡_, refl, sym, ap, _∙_}
+use mathlib.Core.Path.{_≡_, refl, sym, _∙_}
 use mathlib.Core.Bool.{Bool, true, false, cond, _&&_, _||_, or-false}
 use mathlib.Core.List.{List, []}
 use Prim.Native.Nat.{ℕ, _+_, _≤_, _<_}
@@ -11,7 +11,7 @@ use borrow.Author.Tests.{lt-ltb, le-ltb, eq-eqb, ne-eqb, eqb-true}
 use Rattle.model.specs.Lists.{empty}
 use Rattle.model.specs.Tlv.{le, fits, signature, certificate, full, surrogate}
 use Rattle.model.specs.Layouts.{end, reads}
-use Rattle.model.specs.Commands.{judge, Result, refused, gave, keyRegistrationData, signedData, leastOutput}
+use Rattle.model.specs.Commands.{judge, Result, refused, keyRegistrationData, signedData, leastOutput}
 use Rattle.model.specs.Complete.{Completion, draftsOf, isDraft, completionOk, completed, complete}
 use Rattle.model.proofs.Basics.{split, clash, and-left, and-right}
 use Rattle.model.proofs.LayoutLaws.{most, fits-most}

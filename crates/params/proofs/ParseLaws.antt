@@ -67,7 +67,7 @@ unfolding broken childrenOk childPasses
 broken-times k s held h e f = rw (le-leb _ _ h, e, f)
 
 pub read-broken : {k : Kind} {s places : List ℕ} {r : Params} → broken k s ≡ true → r ≡ noParams
-    → ParamsRead k s r × HandlesRead k s places (r .handles)
+    → ParamsRead k s r × HandlesRead k s places (r .«handle_count»)
 read-broken b e = (
   record { broken-is = rw e (sym b); if-broken = λ h. e; unless-broken = λ h. clash b h },
   record { unless-broken = λ h. clash b h },
@@ -171,7 +171,7 @@ module _ {k : Kind} {s times : List ℕ} {first : List Span} {handles : List ℕ
 
   -- the whole answer
   pub read-all : {least : List ℕ} → least ≡ bySlot (leastFor k) → {r : Params} → r ≡ paramsAt least times first
-      → ParamsRead k s r × HandlesRead k s handles (r .handles)
+      → ParamsRead k s r × HandlesRead k s handles (r .«handle_count»)
   unfolding paramsAt
   read-all l p =
       split (enough (bySlot (leastFor k)) times)

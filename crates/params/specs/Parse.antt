@@ -2,7 +2,7 @@
 use mathlib.Core.Path.{_≡_}
 use Prim.Native.Nat.{ℕ, _≤_}
 use mathlib.Core.Bool.{true, false, cond}
-use mathlib.Core.List.{List, [], _∷_}
+use mathlib.Core.List.{List}
 use lib.ListN.{length, take, drop, getD}
 use Rattle.model.specs.Tlv as model
 use Rattle.model.specs.Tlv.{maxCommand, fills, broken, fieldsIn, fieldIn}
@@ -46,7 +46,7 @@ noParams =
       «access_token» = noSpan;
       «key_id» = noSpan;
       «transaction_content» = noSpan;
-      handles = 0;
+      «handle_count» = 0;
     }
 
 -- where every parameter stands, by the first value of each slot, and how many key handles there are
@@ -62,7 +62,7 @@ picked first n =
       «access_token» = at 7;
       «key_id» = at 6;
       «transaction_content» = at 5;
-      handles = n;
+      «handle_count» = n;
     }
 
 -- the answer to a command whose children were all taken
@@ -81,4 +81,4 @@ pub record HandlesRead (k : model.Kind) (s places : List ℕ) (n : ℕ) : Type 0
 
 -- what the reader of a child run gives and leaves: the answer to every command of this kind that is not too long and has this run after its header
 pub record ChildrenRead (k : model.Kind) (run places : List ℕ) (r : Params) : Type 0 where
-  pub answers : (s : List ℕ) → length s ≤ maxCommand → fills s ≡ true → run ≡ drop 4 s → ParamsRead k s r × HandlesRead k s places (r .handles)
+  pub answers : (s : List ℕ) → length s ≤ maxCommand → fills s ≡ true → run ≡ drop 4 s → ParamsRead k s r × HandlesRead k s places (r .«handle_count»)

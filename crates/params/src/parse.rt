@@ -26,7 +26,7 @@ pub struct Params {
     pub access_token: Span,
     pub key_id: Span,
     pub transaction_content: Span,
-    pub handles: usize,
+    pub handle_count: usize,
 }
 
 // "key handle 32 .., at most 8 of them": how many places are lent for them.
@@ -45,7 +45,7 @@ fn no_params() -> Params
         access_token: NO_SPAN,
         key_id: NO_SPAN,
         transaction_content: NO_SPAN,
-        handles: 0,
+        handle_count: 0,
     }
 }
 
@@ -66,7 +66,7 @@ fn params_at(least: [u8; ENTRIES], times: [u8; ENTRIES], first: [Span; KEY_HANDL
         transaction_content: first[kinds::TRANSACTION_CONTENT],
         key_id: first[kinds::KEY_ID],
         access_token: first[kinds::ACCESS_TOKEN],
-        handles: times[KEY_HANDLE] as usize,
+        handle_count: times[KEY_HANDLE] as usize,
     }
 }
 
@@ -117,7 +117,7 @@ fn read_children(run: &[u8], kind: Kind, handles: &mut [usize]) -> Params
 // Reads a command of this kind, and puts the places of its key handles into what is lent for them. Its child run is passed on as a part of it.
 pub fn params_of(s: &[u8], kind: Kind, handles: &mut [usize]) -> Params
     requires { ⌜ length (now handles) ≡ 8 ⌝ }
-    ensures { λ r. ⌜ ParamsRead (kindIs kind) (now (s .entry)) r × HandlesRead (kindIs kind) (now (s .entry)) (now (handles .exit)) (r .handles) ⌝ }
+    ensures { λ r. ⌜ ParamsRead (kindIs kind) (now (s .entry)) r × HandlesRead (kindIs kind) (now (s .entry)) (now (handles .exit)) (r .«handle_count») ⌝ }
 {
     if MAX_COMMAND < s.len() {
         return no_params();

@@ -8,9 +8,10 @@ use Prim.Native.Nat.{ℕ, zero, suc, _+_, _-_, _≤_, _<_}
 use native.Mathlib.Nat.{add-zero, pos-of-ne-zero}
 use native.Mathlib.Numerals.{add-one}
 use native.Mathlib.Omega.{arith}
-use lib.ListN.{length, getD, take, drop, set, length-append, length-map, length-set, drop-of-length-le, List·getD-map}
-use lib.Seq.{drop-cons, drop-drop, take-length, length-take-le, getD-take, getD-drop, take-suc-set}
-use lib.Dec.{eqb}
+use lib.ListN.{length, getD, take, drop, set, length-append, length-map, length-set, drop-of-length-le}
+use lib.Seq.{drop-cons, drop-drop, length-take-le, getD-drop, take-suc-set}
+use lib.Dec.{ltb}
+use borrow.Author.Tests.{lt-ltb, le-ltb, ltb-true, ltb-false}
 use Rattle.model.specs.Lists.{consIf, select, empty, eqBytes, among}
 use Rattle.model.specs.Records as model
 use Rattle.model.specs.Records.{hasMixed, own, keyIds, tableOk}
@@ -20,6 +21,7 @@ use Rattle.model.proofs.Rules.{tests}
 use Rattle.tlv.specs.Rows.{row, rows}
 use Rattle.tlv.proofs.RowLaws.{length-rows, rows-end, rows-at}
 use Rattle.stored_table.specs.Stored.{noRecord, keyIdAt, mixedAt, recordAt, tableIn, Indexed}
+use Rattle.stored_table.specs.Changes.{stayFirst}
 use Rattle.stored_table.specs.Chosen.{isChosen, positions, ChosenAre, ChosenOf, recordsAt}
 use Rattle.stored_table.proofs.IndexLaws.{record-at, length-places}
 
@@ -171,27 +173,28 @@ module _ (m : List ℕ) (hs : List (List ℕ)) {table places : List ℕ} (x : In
             are = one-more ∙ rw (add-one len, take-suc-set records len i l) (sym (append-assoc (take len records) (i ∷ []) _));
           }
 
--- ---- a walk over the records for a KeyID of a mixed token's
+-- ---- a mixed token has a KeyID exactly if a record would go in a removal by both
 
--- one record more, if it has the mixed token
-own-more : (m k : List ℕ) (r : model.Record) (t : model.Table)
-    → among k (keyIds (own m (r ∷ t))) ≡ ((eqBytes (r .mixed) m && eqBytes (r .keyId) k) || among k (keyIds (own m t)))
-unfolding own
-own-more m k r t = split (eqBytes (r .mixed) m) (λ e. rw e) (λ e. rw e)
+ltb-suc : (a b : ℕ) → ltb (suc a) (suc b) ≡ ltb a b
+ltb-suc a b =
+    split (ltb a b)
+    (λ e. lt-ltb (suc a) (suc b) (omega (arith, ltb-true a b e)) ∙ sym e)
+    (λ e. le-ltb (suc a) (suc b) (omega (arith, ltb-false a b e)) ∙ sym e)
 
-module _ (m k : List ℕ) {table places : List ℕ} (x : Indexed table places) (i : ℕ) where
-  pub own-end : length places ≤ i → among k (keyIds (own m (drop i (tableIn table)))) ≡ false
-  unfolding own
-  own-end h = rw (drop-of-length-le (tableIn table) {i = i} (omega (arith, length-places x)))
+own-going : (m k : List ℕ) → empty k ≡ false → (t : model.Table) → ltb (stayFirst m k t) (length t) ≡ among k (keyIds (own m t))
+unfolding own stayFirst
+own-going m k h [] = refl
+own-going m k h (r ∷ t) =
+    let ih = own-going m k h t in
+    split (eqBytes (r .mixed) m)
+    (λ e. split (eqBytes (r .keyId) k)
+    (λ f. rw (h, e, f) (lt-ltb 0 (suc (length t)) (omega arith)))
+    (λ f. rw (h, e, f) (ltb-suc _ (length t) ∙ ih)))
+    (λ e. rw e (ltb-suc _ (length t) ∙ ih))
 
-  -- at record i, where a and g are what the tests of its mixed token and of its KeyID gave
-  pub own-at : i < length places → (a g : Bool) → a ≡ eqBytes (row (getD places i 0 + mixedAt) table) m
-      → g ≡ eqBytes (row (getD places i 0 + keyIdAt) table) k
-      → among k (keyIds (own m (drop i (tableIn table)))) ≡ ((a && g) || among k (keyIds (own m (drop (i + 1) (tableIn table)))))
-  unfolding recordAt
-  own-at h a g e f =
-      let t : model.Table = tableIn table in
-      let r = getD t i noRecord in
-      let owner : row (getD places i 0 + mixedAt) table ≡ r .mixed = ap (λ (r : model.Record). r .mixed) (record-at x i h .is) in
-      let key : row (getD places i 0 + keyIdAt) table ≡ r .keyId = ap (λ (r : model.Record). r .keyId) (record-at x i h .is) in
-      rw (drop-cons t i noRecord (omega (arith, length-places x)), add-one, own-more m k r (drop (suc i) t), e, f, owner, key)
+-- where n is the number of the first that would
+pub own-first : (m k : List ℕ) {table places : List ℕ} {n : ℕ} → Indexed table places → empty k ≡ false
+    → n ≡ 0 + stayFirst m k (drop 0 (tableIn table)) → ltb n (length places) ≡ among k (keyIds (own m (tableIn table)))
+own-first m k {table} {n = n} x h e =
+    let first : n ≡ stayFirst m k (tableIn table) = omega arith in
+    rw (first, length-places x) (own-going m k h (tableIn table))

@@ -107,7 +107,7 @@ fn is_going(table: &[u8], place: usize, mixed: &[u8], key: &[u8]) -> bool
 }
 
 // The number of the first record from i on that goes; if none does, how many there are.
-fn next_going(table: &[u8], places: &[usize], i: usize, mixed: &[u8], key: &[u8]) -> usize
+pub fn next_going(table: &[u8], places: &[usize], i: usize, mixed: &[u8], key: &[u8]) -> usize
     requires { ⌜ Indexed (now table) (now places) × (i ≤ length (now places)) ⌝ }
     ensures { λ r. ⌜ r ≡ i + stayFirst (now (mixed .entry)) (now (key .entry)) (drop i (tableIn (now (table .entry)))) ⌝ }
 {

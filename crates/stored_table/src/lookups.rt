@@ -1,3 +1,4 @@
+use crate::left::next_going;
 use crate::records::KEY_ID;
 use crate::records::MIXED;
 use tlv::rows::is_among;
@@ -6,7 +7,7 @@ use tlv::rows::same_row;
 use tlv::rows::times_in;
 ghost use mathlib.Core.Path.{_≡_};
 ghost use Prim.Native.Nat.{_+_, _≤_};
-ghost use mathlib.Core.Bool.{_||_};
+ghost use mathlib.Core.Bool.{false, _||_};
 ghost use lib.ListN.{length};
 ghost use Rattle.model.specs.Lists.{among, empty};
 ghost use Rattle.model.specs.Records.{own, keyIds};
@@ -79,20 +80,10 @@ pub fn choose(
     len
 }
 
-// Whether a mixed token has a record with this KeyID.
+// Whether a mixed token has a record with this KeyID: it would go in a removal by both.
 pub fn is_own(table: &[u8], places: &[usize], mixed: &[u8], key: &[u8]) -> bool
-    requires { ⌜ Indexed (now table) (now places) ⌝ }
+    requires { ⌜ Indexed (now table) (now places) × (empty (now key) ≡ false) ⌝ }
     ensures { λ r. ⌜ r ≡ among (now (key .entry)) (keyIds (own (now (mixed .entry)) (tableIn (now (table .entry))))) ⌝ }
 {
-    let mut i = 0;
-    while i < places.len() {
-        let place = places[i];
-        if row_is(table, place + MIXED, mixed) {
-            if row_is(table, place + KEY_ID, key) {
-                return true;
-            }
-        }
-        i += 1;
-    }
-    false
+    next_going(table, places, 0, mixed, key) < places.len()
 }

@@ -46,6 +46,12 @@ returns-2 c = simp (unbroken (c .before .before .before), emptiness (c .before) 
 part-of-requires : tie.Need-part-of-requires
 part-of-requires c κs = key-placed (c .before .before .before) .inside
 
+is-own-requires : tie.Need-is-own-requires
+is-own-requires c κs =
+    let e = c .before in
+    let k = c .part-of .ensures ∙ key-placed (e .before .before .before) .value in
+    (start (e .before .before .before) .pre .1, rw k (emptiness (e .before) ∙ e .if2 .left))
+
 returns-3 : tie.Need-returns-3
 unfolding judge
 returns-3 c =
@@ -60,4 +66,4 @@ returns-4 c =
 
 pub judge-deregister-spec : {M : Type 1} → statement M
 judge-deregister-spec =
-    tie.close (tie.spec returns (λ c κs. search needs) returns-2 part-of-requires (λ c κs. search needs) returns-3 returns-4)
+    tie.close (tie.spec returns (λ c κs. search needs) returns-2 part-of-requires is-own-requires returns-3 returns-4)

@@ -30,7 +30,7 @@ returns-3 c =
 placed : (c : tie.After-enum-told) → ParamsPlaced (now (start c .args .command)) (start c .args .params)
 placed c = sign-placed (start c .args .numbers) (start c .pre .0 .0) (c .before .before .judge-sign .ensures) (c .enum-told .given .1)
 
-given : (c : tie.After-enum-told) → HandlesPlaced (now (start c .args .command)) (now (start c .args .handles)) (start c .args .params .handles)
+given : (c : tie.After-enum-told) → HandlesPlaced (now (start c .args .command)) (now (start c .args .handles)) (start c .args .params .«handle_count»)
 given c =
     handles-placed (start c .args .numbers) (start c .pre .0 .0) (c .before .before .judge-sign .ensures) (c .enum-told .given .1) (start c .pre .0 .1)
 
@@ -41,7 +41,7 @@ found : (c : tie.After-choose) → let a = start (c .before .before .before) .ar
 found c =
     let p = c .before .before .before in
     chose _ (start p .pre .0 .0) (p .before .before .judge-sign .ensures) (p .enum-told .given .1) (start p .pre .0 .1) (start p .pre .1 .0 .ok)
-    (rw (sub-zero (start p .args .params .handles)) at (c .choose .ensures))
+    (rw (sub-zero (start p .args .params .«handle_count»)) at (c .choose .ensures))
 
 -- the only one has a place
 abbrev start-2 : tie.Then2 → tie.Start
@@ -53,7 +53,7 @@ first c = omega (arith, found (c .before .before .before .before) .mine (c .if2 
 choose-requires : tie.Need-choose-requires
 choose-requires c κs =
     let p = c .before .before in
-    (start p .pre .1 .0, (rw (sub-zero (start p .args .params .handles)) (given p .inside), start p .pre .1 .1))
+    (start p .pre .1 .0, (rw (sub-zero (start p .args .params .«handle_count»)) (given p .inside), start p .pre .1 .1))
 
 returns : tie.Need-returns
 returns c = λ k. rw (c .only2 .ensures) (none-chosen (found (c .before .before .before .before)) (c .before .if1 .taken))

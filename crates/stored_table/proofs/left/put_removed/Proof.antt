@@ -1,6 +1,6 @@
 -- What stays of the first i records is written after each turn, in no more bytes than they have.
 use mathlib.Core.Path.{_≡_, refl, ap}
-use Prim.Native.Nat.{_-_, _≤_}
+use Prim.Native.Nat.{_-_}
 use native.Mathlib.Omega.{arith}
 use lib.ListN.{length, take}
 use borrow.Author.Needs.{needs}
