@@ -1,4 +1,4 @@
--- What a field's size says of a value: nothing else is asked of these fields.
+-- What a field's size says of a value.
 -- Assumes nothing.
 use mathlib.Core.Path.{_≡_, refl}
 use mathlib.Core.Bool.{Bool, true, false, _&&_}
@@ -7,14 +7,14 @@ use Prim.Native.Nat.{ℕ, _≤_, _<_}
 use lib.ListN.{length}
 use lib.Dec.{leb}
 use borrow.Author.Tests.{le-leb, lt-leb}
+use Rattle.model.specs.Tlv as model
 use Rattle.model.specs.Tlv.{ruleOf, fits}
 use Rattle.fields.specs.Fields.{named, SizeIs}
 use Rattle.fields.specs.declared.sizes.Size.{Size}
 use Rattle.fields.specs.declared.Field.{Field}
-use Rattle.fields.specs.declared.Field.the-variants.{Username, KeyId, MixedToken, Aaid, Metadata, PublicKey, Nonce, ContentHash, Signature, Certificate}
+use Rattle.fields.specs.declared.Field.the-variants.{KeyId, MixedToken, Aaid, Metadata, PublicKey, Nonce, ContentHash, Signature, Certificate}
 
 any-bytes : (f : Field) (v : List ℕ) → ruleOf (named f) .allowed v ≡ true
-any-bytes Username v = refl
 any-bytes KeyId v = refl
 any-bytes MixedToken v = refl
 any-bytes Aaid v = refl
@@ -29,11 +29,22 @@ and-true : (b : Bool) → (b && true) ≡ b
 and-true true = refl
 and-true false = refl
 
-module _ (f : Field) (v : List ℕ) (r : Size) (i : SizeIs f r) where
-  pub fits-short : length v < r .least → fits (named f) v ≡ false
+-- a value whose length is right obeys the rule if the rest of it does
+module _ (f : model.Field) (v : List ℕ) {least : ℕ} (l : least ≡ ruleOf f .least) where
+  pub fits-short : length v < least → fits f v ≡ false
   unfolding fits
-  fits-short h = simp (lt-leb _ _ (rw (i .least-is) at h))
+  fits-short h = simp (lt-leb _ _ (rw l at h))
 
-  pub fits-else : r .least ≤ length v → fits (named f) v ≡ leb (length v) (r .most)
-  unfolding fits
-  fits-else h = rw (le-leb _ _ (rw (i .least-is) at h), any-bytes f v, i .most-is) (and-true (leb (length v) (ruleOf (named f) .most)))
+  module _ {most : ℕ} (m : most ≡ ruleOf f .most) (h : least ≤ length v) where
+    pub fits-long : most < length v → fits f v ≡ false
+    unfolding fits
+    fits-long k = simp (le-leb _ _ (rw l at h), lt-leb _ _ (rw m at k))
+
+    pub fits-else : length v ≤ most → fits f v ≡ ruleOf f .allowed v
+    unfolding fits
+    fits-else k = simp (le-leb _ _ (rw l at h), le-leb _ _ (rw m at k))
+
+-- of these fields nothing else is asked
+pub fits-sized : (f : Field) (v : List ℕ) (r : Size) → SizeIs f r → r .least ≤ length v → fits (named f) v ≡ leb (length v) (r .most)
+unfolding fits
+fits-sized f v r i h = rw (le-leb _ _ (rw (i .least-is) at h), any-bytes f v, i .most-is) (and-true (leb (length v) (ruleOf (named f) .most)))

@@ -7,11 +7,10 @@ use Rattle.model.specs.Tlv as model
 use Rattle.model.specs.Tlv.{ruleOf}
 use Rattle.fields.specs.declared.sizes.Size.{Size}
 use Rattle.fields.specs.declared.Field.{Field}
-use Rattle.fields.specs.declared.Field.the-variants.{Username, KeyId, MixedToken, Aaid, Metadata, PublicKey, Nonce, ContentHash, Signature, Certificate}
+use Rattle.fields.specs.declared.Field.the-variants.{KeyId, MixedToken, Aaid, Metadata, PublicKey, Nonce, ContentHash, Signature, Certificate}
 
 -- the model's field
 abbrev pub named : Field → model.Field
-named Username = model.username
 named KeyId = model.keyId
 named MixedToken = model.mixedToken
 named Aaid = model.aaid

@@ -5,8 +5,9 @@ pub mod sizes;
 pub mod tags;
 
 use crate::sizes::Size;
+use utf8::is_utf8;
 ghost use mathlib.Core.Path.{_≡_};
-ghost use Rattle.model.specs.Tlv.{fits};
+ghost use Rattle.model.specs.Tlv.{fits, username};
 ghost use Rattle.fields.specs.Fields.{named, SizeIs};
 
 // "A command is at most 8,192 bytes".
@@ -15,9 +16,8 @@ pub const MAX_COMMAND: usize = 8192;
 // "Response output shorter than 4,096".
 pub const LEAST_OUTPUT: usize = 4096;
 
-// A field of which only the size is asked where it comes from a caller: what is lent, and the names of a table by value.
+// A field of which only the size is asked where it comes from a caller.
 pub enum Field {
-    Username,
     KeyId,
     MixedToken,
     Aaid,
@@ -34,7 +34,6 @@ fn size_of(f: Field) -> Size
     ensures { λ r. ⌜ SizeIs f r ⌝ }
 {
     match f {
-        Field::Username => sizes::USERNAME,
         Field::KeyId => sizes::KEY_ID,
         Field::MixedToken => sizes::MIXED_TOKEN,
         Field::Aaid => sizes::AAID,
@@ -56,4 +55,18 @@ pub fn fits(f: Field, v: &[u8]) -> bool
         return false;
     }
     v.len() <= size.most
+}
+
+// Whether a value is a username.
+pub fn is_username(v: &[u8]) -> bool
+    ensures { λ r. ⌜ r ≡ fits username (now (v .entry)) ⌝ }
+{
+    let size = sizes::USERNAME;
+    if v.len() < size.least {
+        return false;
+    }
+    if size.most < v.len() {
+        return false;
+    }
+    is_utf8(v)
 }

@@ -1,7 +1,6 @@
 use crate::records::Record;
 use crate::records::Table;
-use fields::Field;
-use fields::fits;
+use fields::is_username;
 use stored_table::records::MAX_RECORDS;
 ghost use mathlib.Core.Path.{_≡_};
 ghost use Prim.Native.Nat.{_≤_};
@@ -18,7 +17,7 @@ fn is_name(v: &[u8], n: usize) -> bool
     requires { ⌜ n ≤ length (now v) ⌝ }
     ensures { λ r. ⌜ r ≡ fits username (take n (now (v .entry))) ⌝ }
 {
-    fits(Field::Username, &v[..n])
+    is_username(&v[..n])
 }
 
 // Whether the first n bytes of an array are a name: its length is its type's.

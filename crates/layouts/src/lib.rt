@@ -7,10 +7,11 @@ use fields::tags;
 use tlv::bytes::same;
 use tlv::numbers::get16;
 use tlv::numbers::get32;
+use utf8::is_utf8;
 ghost use mathlib.Core.Path.{_≡_};
 ghost use mathlib.Core.Bool.{true};
 ghost use Rattle.model.specs.Lists.{eqBytes};
-ghost use Rattle.model.specs.Tlv.{rule, sized, assertionInfo, contentHash, noCounts, newCount, krdTag, pairTag};
+ghost use Rattle.model.specs.Tlv.{rule, sized, username, assertionInfo, contentHash, noCounts, newCount, krdTag, pairTag};
 ghost use Rattle.model.specs.Layouts.{reads};
 ghost use Rattle.model.specs.Records.{recordFields};
 ghost use Rattle.model.specs.Commands.{pairFields};
@@ -87,6 +88,20 @@ pub fn after_fixed(s: &[u8], at: usize, size: Size, value: &[u8]) -> usize
         return s.len() + 1;
     }
     if !same(value, &s[at + 4..end]) {
+        return s.len() + 1;
+    }
+    end
+}
+
+// The place after a username.
+fn after_name(s: &[u8], at: usize) -> usize
+    ensures { λ r. ⌜ r ≡ afterField username (now (s .entry)) at ⌝ }
+{
+    let end = after_sized(s, at, sizes::USERNAME);
+    if s.len() < end {
+        return s.len() + 1;
+    }
+    if !is_utf8(&s[at + 4..end]) {
         return s.len() + 1;
     }
     end
@@ -193,7 +208,7 @@ fn is_signed_data(s: &[u8]) -> bool
 fn is_pair(s: &[u8]) -> bool
     ensures { λ r. ⌜ r ≡ reads pairFields (now (s .entry)) ⌝ }
 {
-    let a = after_sized(s, 0, sizes::USERNAME);
+    let a = after_name(s, 0);
     let end = after_sized(s, a, sizes::KEY_HANDLE);
     end == s.len()
 }
@@ -204,7 +219,7 @@ fn is_record(s: &[u8]) -> bool
 {
     let a1 = after_sized(s, 0, sizes::KEY_ID);
     let a2 = after_sized(s, a1, sizes::MIXED_TOKEN);
-    let a3 = after_sized(s, a2, sizes::USERNAME);
+    let a3 = after_name(s, a2);
     let end = after_sized(s, a3, sizes::COUNTER);
     end == s.len()
 }

@@ -5,6 +5,7 @@ use Prim.Native.Nat.{ℕ, zero, suc, _+_}
 use mathlib.Core.List.{List, [], _∷_, _++_}
 use lib.ListN.{replicate}
 use Rattle.model.specs.Lists.{eqBytes}
+use Rattle.model.specs.Utf8.{follow, utf8After}
 use Rattle.model.specs.Tlv.{num, le, bytes, tlvsPast, wellFormed, fits, kindOf, childrenOk, children, broken, fieldsIn, fieldIn}
 use Rattle.model.specs.Layouts.{fill, write, matches}
 use Rattle.model.specs.Records.{Record, Table, recordOk, own, tableOk, encode, storedAs, decode}
@@ -12,7 +13,7 @@ use Rattle.model.specs.Commands.{Lent, profileOk, lentOk, judge, apply, 
 use Rattle.model.specs.Traces.{Form, itself, inStoredForm, result, next, final, callsOf, observe, fresh, roomy}
 
 unfoldable pub computing : Unit {0}
-unfolding eqBytes num le bytes tlvsPast wellFormed fits kindOf childrenOk children broken fieldsIn fieldIn fill write matches recordOk own tableOk encode storedAs decode profileOk lentOk judge apply only infoResponse decideGetInfo registerDraft registerChecks decideRegister chosen nameResponse hasContent signDraft signOne signChosen decideSign decideDeregister decideOpenSettings decide perform tableOf refusals outcome result next final callsOf observe fresh roomy
+unfolding eqBytes follow utf8After num le bytes tlvsPast wellFormed fits kindOf childrenOk children broken fieldsIn fieldIn fill write matches recordOk own tableOk encode storedAs decode profileOk lentOk judge apply only infoResponse decideGetInfo registerDraft registerChecks decideRegister chosen nameResponse hasContent signDraft signOne signChosen decideSign decideDeregister decideOpenSettings decide perform tableOf refusals outcome result next final callsOf observe fresh roomy
 computing = tt
 
 -- two facts that are computed, one for each form: as clauses each would be computed once more

@@ -9,6 +9,7 @@ use lib.ListN.{length, getD}
 use lib.Dec.{lit<}
 use borrow.Author.Tests.{le-leb, ltb-true, eqb-true, ne-eqb}
 use Rattle.model.specs.Lists.{empty, eqBytes}
+use Rattle.model.specs.Utf8.{follow, utf8After}
 use Rattle.model.specs.Tlv.{Bytes, num, le, Kind, register, sign, Field, challengeHash, attestationType, transactionContent, keyHandle, aaid, assertionInfo, keyId, noCounts, publicKey, nonce, contentHash, newCount, full, fits, fieldsOf, valuesOf, childrenOk, fieldsIn, fieldIn, maxCommand}
 use Rattle.model.specs.Layouts.{end, fill, write, reads}
 use Rattle.model.specs.Records.{Record, Table, recordOk, own, tableOk, maxCount}
@@ -66,7 +67,7 @@ info-of mode w i f b =
 -- ---- Register
 
 registering-ok : (h : List ℕ) → fits challengeHash h ≡ true → childrenOk (fieldsOf register) (registering h full) ≡ true
-unfolding childrenOk fits eqBytes le
+unfolding childrenOk fits follow utf8After eqBytes le
 registering-ok h f = rw f
 
 register-answers : (h : List ℕ) (l : Lent) → fits challengeHash h ≡ true → l .verdict ≡ 0
@@ -185,7 +186,7 @@ sign-lent a v s n x fa fv fs fn fx = both (both (both (both (both (profile-ok _ 
 
 one-ok : (k : List ℕ) (n : ℕ) → fits keyId k ≡ true → n < maxCount
     → tableOk (record { keyId = k; mixed = zeros 32; name = byte; count = n } ∷ []) ≡ true
-unfolding tableOk recordOk own fits eqBytes
+unfolding tableOk recordOk own fits follow utf8After eqBytes
 one-ok k n f m = both (both (both refl (both (both (both (both f refl) refl) (le-leb n maxCount (omega arith))) refl)) refl) refl
 
 short-info : {mode : ℕ} {i : List ℕ} (j : Info mode 0 i) → le 2 (j .version) ++ (mode ∷ le 2 (j .algorithm)) ≡ i

@@ -5,6 +5,8 @@ pub mod Checklist
 pub mod Numbers
 pub mod Tlvs
 pub mod LayoutLaws
+pub mod Utf8Chars
+pub mod Utf8Laws
 pub mod StoredForm
 pub mod Rules
 pub mod Fields

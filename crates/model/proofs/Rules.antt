@@ -9,17 +9,20 @@ use lib.ListN.{length, getD, length-map, List·getD-map}
 use lib.Dec.{leb}
 use borrow.Author.Tests.{leb-true, le-leb, not-true}
 use Rattle.model.specs.Lists.{all, select, eqBytes, among, distinct}
+use Rattle.model.specs.Utf8.{utf8}
 use Rattle.model.specs.Tlv.{fits, keyId, mixedToken, username}
 use Rattle.model.specs.Records.{Record, Table, recordOk, hasMixed, own, keyIds, maxCount, maxRecords, maxOwn, tableOk}
 use Rattle.model.proofs.Basics.{split, clash, and-left, and-right, both, eqBytes-eq, eqBytes-same, all-select}
-use Rattle.model.proofs.LayoutLaws.{fits-least, fits-most, size-fits}
+use Rattle.model.proofs.LayoutLaws.{fits-least, fits-most, fits-allowed, size-fits}
 
--- "a KeyID of 32 bytes, a mixed token of 32 bytes, a username of 1 to 128 bytes and a 32-bit SignCounter"
+-- "a KeyID of 32 bytes, a mixed token of 32 bytes, a username of 1 to 128 bytes and a 32-bit SignCounter"; A1: "a username must now be well-formed
+-- UTF-8"
 pub record RecordRules (r : Record) : Type 0 where
   pub key-id : length (r .keyId) ≡ 32
   pub mixed-token : length (r .mixed) ≡ 32
   pub name-least : 1 ≤ length (r .name)
   pub name-most : length (r .name) ≤ 128
+  pub name-utf8 : utf8 (r .name) ≡ true
   pub counter : r .count < 4294967296
 
 -- what a reading past the end gives
@@ -100,6 +103,7 @@ record-rules r e =
       mixed-token = omega (arith, fits-least _ _ m, fits-most _ _ m);
       name-least = fits-least _ _ n;
       name-most = fits-most _ _ n;
+      name-utf8 = fits-allowed username (r .name) n;
       counter = omega (arith, leb-true);
     }
 
@@ -108,7 +112,7 @@ unfolding recordOk
 record-ok r h =
     let k : fits keyId (r .keyId) ≡ true = size-fits keyId (r .keyId) (omega arith) (omega arith) refl in
     let m : fits mixedToken (r .mixed) ≡ true = size-fits mixedToken (r .mixed) (omega arith) (omega arith) refl in
-    let n : fits username (r .name) ≡ true = size-fits username (r .name) (h .name-least) (h .name-most) refl in
+    let n : fits username (r .name) ≡ true = size-fits username (r .name) (h .name-least) (h .name-most) (h .name-utf8) in
     both (both (both k m) n) (le-leb (r .count) maxCount (omega arith))
 
 -- ---- no KeyID twice

@@ -10,6 +10,7 @@ use lib.ListN.{length, drop, getD, replicate, length-append}
 use lib.Dec.{lit<, leb}
 use borrow.Author.Tests.{leb-true, le-leb}
 use Rattle.model.specs.Lists.{all, eqBytes}
+use Rattle.model.specs.Utf8.{follow, utf8After}
 use Rattle.model.specs.Tlv.{Bytes, num, le, Tlv, tlv, bytes, tlvs, fits, keyId, mixedToken, username, counter, pairTag}
 use Rattle.model.specs.Layouts.{fill, write, matches}
 use Rattle.model.specs.Records.{Record, Table, maxCount, recordOk, own, maxRecords, tableOk, recordFields, storedRecord, encode, maxStored, storedAs, tableFrom, decode}
@@ -247,5 +248,5 @@ longest (suc n) =
 
 -- the bound is reached
 pub fullest : (tableOk (longest 32) ≡ true) × (length (encode (longest 32)) ≡ maxStored)
-unfolding tableOk recordOk own eqBytes fits encode write fill bytes le
+unfolding tableOk recordOk own eqBytes fits follow utf8After encode write fill bytes le
 fullest = (refl, refl)

@@ -6,6 +6,7 @@ use mathlib.Core.Option.{Option, none, some, Option·getD, Option·map}
 use lib.ListN.{length, take, drop, getD}
 use lib.Dec.{leb, ltb, eqb}
 use Rattle.model.specs.Lists.{all, select, first, empty, eqBytes, among}
+use Rattle.model.specs.Utf8.{utf8}
 
 -- what a stretch of a caller's bytes is
 abbrev pub Bytes : List ℕ → Type 0
@@ -184,7 +185,7 @@ abbrev pub ruleOf : Field → Rule
 ruleOf index = exactly 0x280D (0 ∷ [])
 ruleOf appId = sized 0x2804 1 512
 ruleOf challengeHash = sized 0x2E0A 1 32
-ruleOf username = sized 0x2806 1 128
+ruleOf username = rule 0x2806 1 128 utf8
 ruleOf attestationType = sized 0x2807 2 2
 ruleOf accessToken = sized 0x2805 1 32
 ruleOf keyHandle = sized 0x2801 32 32

@@ -164,20 +164,6 @@ most-room k j h = leb-true _ _ (at-kind (λ k i. leb (mostFor k (slotField i)) (
 
 -- ---- whether a value obeys the rule of a slot's field
 
-module _ (f : Field) (v : List ℕ) {least : ℕ} (l : least ≡ ruleOf f .least) where
-  pub fits-short : length v < least → fits f v ≡ false
-  unfolding fits
-  fits-short h = simp (lt-leb _ _ (rw l at h))
-
-  module _ {most : ℕ} (m : most ≡ ruleOf f .most) (h : least ≤ length v) where
-    pub fits-long : most < length v → fits f v ≡ false
-    unfolding fits
-    fits-long k = simp (le-leb _ _ (rw l at h), lt-leb _ _ (rw m at k))
-
-    pub fits-else : length v ≤ most → fits f v ≡ ruleOf f .allowed v
-    unfolding fits
-    fits-else k = simp (le-leb _ _ (rw l at h), le-leb _ _ (rw m at k))
-
 -- the one byte of an index
 pub index-byte : (v : List ℕ) → length v ≡ 1 → eqb (getD v 0 0) 0 ≡ eqBytes (0 ∷ []) v
 unfolding eqBytes
@@ -186,13 +172,13 @@ index-byte (x ∷ []) e =
     split (eqb x 0) (λ d. d ∙ sym (rw (eqb-true x 0 d))) (λ d. d ∙ sym (rw (ne-eqb 0 x (λ z. eqb-false x 0 d (sym z)))))
 index-byte (x ∷ y ∷ v) e = absurd (omega arith)
 
--- of any other value but a KeyID's nothing is asked but its length
-pub any-value : (slot : ℕ) (v : List ℕ) → (slot ≡ 0 → ⊥) → (slot ≡ 6 → ⊥) → ruleOf (slotField slot) .allowed v ≡ true
-any-value slot v h k =
+-- of any other value but a username's and a KeyID's nothing is asked but its length
+pub any-value : (slot : ℕ) (v : List ℕ) → (slot ≡ 0 → ⊥) → (slot ≡ 3 → ⊥) → (slot ≡ 6 → ⊥) → ruleOf (slotField slot) .allowed v ≡ true
+any-value slot v h n k =
     split (ltb slot slots)
-    (λ e. let test : (eqb slot 0 || (eqb slot 6 || ruleOf (slotField slot) .allowed v)) ≡ true =
-    below slots (λ j. eqb j 0 || (eqb j 6 || ruleOf (slotField j) .allowed v)) refl slot (ltb-true _ _ e) in
-    rw (ne-eqb slot 0 h, ne-eqb slot 6 k) at test)
+    (λ e. let test : (eqb slot 0 || (eqb slot 3 || (eqb slot 6 || ruleOf (slotField slot) .allowed v))) ≡ true =
+    below slots (λ j. eqb j 0 || (eqb j 3 || (eqb j 6 || ruleOf (slotField j) .allowed v))) refl slot (ltb-true _ _ e) in
+    rw (ne-eqb slot 0 h, ne-eqb slot 3 n, ne-eqb slot 6 k) at test)
     (λ e. let past : slots ≤ slot = ltb-false _ _ e in rw (slot-from slot (omega arith)))
 
 -- the place lies within, so what reading past the end would give is open

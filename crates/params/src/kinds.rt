@@ -2,6 +2,7 @@ use fields::sizes;
 use fields::sizes::Size;
 use fields::tags;
 use tlv::numbers::get16;
+use utf8::is_utf8;
 ghost use mathlib.Core.Path.{_≡_};
 ghost use Rattle.model.specs.Tlv.{kindOf, ruleOf, fits};
 ghost use Rattle.params.specs.Kinds.{kindIs, namedAs};
@@ -139,7 +140,7 @@ fn size_of(slot: usize) -> Size
     }
 }
 
-// Whether a value obeys the rule of a slot's field: its length, that an index is 0, and that a KeyID is whole or empty.
+// Whether a value obeys the rule of a slot's field: its length, that an index is 0, a username UTF-8, and a KeyID whole or empty.
 pub fn slot_fits(slot: usize, v: &[u8]) -> bool
     ensures { λ r. ⌜ r ≡ fits (slotField slot) (now (v .entry)) ⌝ }
 {
@@ -152,6 +153,9 @@ pub fn slot_fits(slot: usize, v: &[u8]) -> bool
     }
     if slot == INDEX {
         return v[0] == 0;
+    }
+    if slot == USERNAME {
+        return is_utf8(v);
     }
     if slot == KEY_ID {
         if v.len() == 0 {

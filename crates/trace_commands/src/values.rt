@@ -43,6 +43,20 @@ fn with_name_len(t: Table, n: usize) -> Table {
     }
 }
 
+// The first record's name begins with the tail of a letter.
+fn with_tail_first(t: Table) -> Table {
+    let mut records = t.records;
+    let mut first = records[0];
+    let mut name = first.name;
+    name[0] = 0x80;
+    first.name = name;
+    records[0] = first;
+    Table {
+        records,
+        len: t.len,
+    }
+}
+
 // The second record has the first one's KeyID.
 fn with_key_twice(t: Table) -> Table {
     let mut records = t.records;
@@ -85,6 +99,7 @@ fn spoil(t: Table, how: usize) -> Table {
         3 => with_name_len(t, 129),
         4 => with_key_twice(t),
         5 => with_one_mixed(t),
+        6 => with_tail_first(t),
         _ => t,
     }
 }

@@ -9,7 +9,7 @@ returns c =
     let a3 = c .before in
     let a2 = a3 .before in
     from-front
-    (then-field (a2 .before .after-sized .ensures) (then-field (a2 .after-sized2 .ensures) (then-field (a3 .after-sized3 .ensures) (then-field (c .after-sized4 .ensures) then-end))))
+    (then-field (a2 .before .after-sized .ensures) (then-field (a2 .after-sized2 .ensures) (then-field (a3 .after-name .ensures) (then-field (c .after-sized3 .ensures) then-end))))
 
 pub is-record-spec : {M : Type 1} → statement M
 is-record-spec = tie.close (tie.spec (λ c κs. search needs) (λ c κs. search needs) (λ c κs. search needs) (λ c κs. search needs) returns)

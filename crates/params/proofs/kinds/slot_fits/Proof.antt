@@ -1,4 +1,4 @@
--- The least length, the greatest length, then what else is asked: of an index its byte, of a KeyID that it is whole or empty.
+-- The least length, the greatest length, then what else is asked: of an index its byte, of a username that it is UTF-8, of a KeyID that it is whole or empty.
 use denote.Ref.{now}
 use native.Mathlib.Omega.{arith}
 use mathlib.Core.Path.{_≡_, sym, _∙_}
@@ -8,8 +8,9 @@ use borrow.Author.Needs.{needs}
 use borrow.Author.Tests.{eq-eqb, ne-eqb}
 use Rattle.model.specs.Lists.{eqBytes}
 use Rattle.model.specs.Tlv.{fits, ruleOf}
+use Rattle.fields.proofs.FieldLaws.{fits-short, fits-long, fits-else}
 use Rattle.params.specs.Slots.{slotField}
-use Rattle.params.proofs.KindLaws.{fits-short, fits-long, fits-else, index-byte, any-value}
+use Rattle.params.proofs.KindLaws.{index-byte, any-value}
 use Rattle.params.proofs.kinds.slot_fits.Statement.{statement}
 use Rattle.params.proofs.kinds.slot_fits.Tie as tie
 
@@ -44,14 +45,18 @@ returns-3 c =
     index-byte (now (a .v)) (one (c .before)) ∙ sym (sized (c .before .before) ∙ asked)
 
 returns-4 : tie.Need-returns-4
-returns-4 c = sym (sized (c .before .before .before) ∙ rw (c .before .if4 .taken) (simp (eq-eqb _ _ (c .if5 .taken))))
+returns-4 c = c .is-utf8 .ensures ∙ sym (sized (c .before .before .before) ∙ rw (c .before .if4 .taken))
 
 returns-5 : tie.Need-returns-5
-returns-5 c = sym (sized (c .before .before .before) ∙ rw (c .before .if4 .taken) (simp (ne-eqb _ _ (c .if5 .left))))
+returns-5 c = sym (sized (c .before .before .before .before) ∙ rw (c .before .if5 .taken) (simp (eq-eqb _ _ (c .if6 .taken))))
 
 returns-6 : tie.Need-returns-6
-returns-6 c = sym (sized (c .before .before) ∙ any-value _ _ (c .before .if3 .left) (c .if4 .left))
+returns-6 c = sym (sized (c .before .before .before .before) ∙ rw (c .before .if5 .taken) (simp (ne-eqb _ _ (c .if6 .left))))
+
+returns-7 : tie.Need-returns-7
+returns-7 c = sym (sized (c .before .before .before) ∙ any-value _ _ (c .before .before .if3 .left) (c .before .if4 .left) (c .if5 .left))
 
 pub slot-fits-spec : {M : Type 1} → statement M
 slot-fits-spec =
-    tie.close (tie.spec (λ c κs. search needs) returns returns-2 shared-slice-read-result returns-3 returns-4 returns-5 returns-6)
+    tie.close
+    (tie.spec (λ c κs. search needs) returns returns-2 shared-slice-read-result returns-3 (λ c κs. search needs) returns-4 returns-5 returns-6 returns-7)
