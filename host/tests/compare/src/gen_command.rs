@@ -1,5 +1,6 @@
 //! Commands: some that obey the rules under "TLV bytes", and some that are certain to break one.
 
+use crate::gen_name;
 use crate::gen_table::{near, Record};
 use crate::nests;
 use crate::rng::Rng;
@@ -142,6 +143,7 @@ fn right_value(rng: &mut Rng, rule: &Rule, scene: &Scene) -> Vec<u8> {
     match rule.tag {
         tlv::INDEX => vec![0],
         tlv::ATTESTATION_TYPE => attestation_type(rng).to_vec(),
+        tlv::USERNAME => gen_name::right(rng),
         tlv::KEYID if rng.percent(20) => Vec::new(),
         tlv::KEYID => scene.key_id(rng).to_vec(),
         _ => {
@@ -238,12 +240,13 @@ enum Fault {
     Foreign,
     NineHandles,
     HandleLength,
+    Name,
     Malformed,
     Level9,
     TooLong,
 }
 
-const FAULTS: [Fault; 11] = [
+const FAULTS: [Fault; 12] = [
     Fault::Missing,
     Fault::Length,
     Fault::Index,
@@ -252,6 +255,7 @@ const FAULTS: [Fault; 11] = [
     Fault::Foreign,
     Fault::NineHandles,
     Fault::HandleLength,
+    Fault::Name,
     Fault::Malformed,
     Fault::Level9,
     Fault::TooLong,
@@ -293,11 +297,12 @@ fn resize(rng: &mut Rng, kind: Kind, children: &mut Vec<Child>) -> Option<&'stat
     }
     let rule = rng.pick(&limited);
     let length = wrong_length_of(rng, rule);
-    // An index of a wrong length is all zero, so that it is wrong by its length alone.
-    let value = if rule.tag == tlv::INDEX {
-        vec![0; length]
-    } else {
-        rng.bytes(length)
+    // An index of a wrong length is all zero and a name of one UTF-8, so that each is wrong by its
+    // length alone.
+    let value = match rule.tag {
+        tlv::INDEX => vec![0; length],
+        tlv::USERNAME => gen_name::of_length(rng, length),
+        _ => rng.bytes(length),
     };
     match place_of(children, rule.tag) {
         Some(i) => children[i].value = value,
@@ -322,8 +327,12 @@ fn repeat(rng: &mut Rng, kind: Kind, children: &mut Vec<Child>) -> Option<&'stat
         return None;
     }
     let mut again = single[rng.below(single.len())].clone();
-    if again.tag != tlv::INDEX && rng.one_in(2) {
-        rng.fill(&mut again.value);
+    if rng.one_in(2) {
+        match again.tag {
+            tlv::INDEX => {}
+            tlv::USERNAME => again.value = gen_name::right(rng),
+            _ => rng.fill(&mut again.value),
+        }
     }
     insert(rng, children, again);
     Some("body: listed child twice")
@@ -398,6 +407,12 @@ fn resize_handle(rng: &mut Rng, kind: Kind, children: &mut Vec<Child>) -> Option
     Some("body: handle's length")
 }
 
+fn rename(rng: &mut Rng, children: &mut [Child]) -> Option<&'static str> {
+    let i = place_of(children, tlv::USERNAME)?;
+    children[i].value = gen_name::broken(rng);
+    Some("body: name not UTF-8")
+}
+
 fn lengthen(rng: &mut Rng, children: &mut Vec<Child>) -> Option<&'static str> {
     let size = rng.pick(&[
         MOST_COMMAND + 1,
@@ -430,6 +445,7 @@ fn spoil_by(
         Fault::Foreign => add_foreign(rng, kind, children),
         Fault::NineHandles => many_handles(rng, kind, children),
         Fault::HandleLength => resize_handle(rng, kind, children),
+        Fault::Name => rename(rng, children),
         Fault::Malformed => {
             let child = nests::malformed(rng);
             insert(rng, children, child);

@@ -1,6 +1,7 @@
 //! Responses: some that can be written, and some that cannot.
 
 use crate::gen_draft::{self, REGISTRATION, SIGN};
+use crate::gen_name;
 use crate::gen_table::near;
 use crate::rng::Rng;
 use crate::tlv::{self, Child, Kind};
@@ -52,6 +53,13 @@ fn info_response(version: u8, info: &[Child]) -> Vec<u8> {
 /// One name of Sign's list: its two children.
 type Pair = [Child; 2];
 
+pub fn pair(name: &[u8], key_id: &[u8; 32]) -> Pair {
+    [
+        Child::new(tlv::USERNAME, name),
+        Child::new(tlv::KEYHANDLE, *key_id),
+    ]
+}
+
 /// So many names with different KeyIDs. Names may be equal, and KeyIDs nearly so.
 fn pairs(rng: &mut Rng, number: usize) -> Vec<Pair> {
     let mut key_ids: Vec<[u8; 32]> = Vec::new();
@@ -66,18 +74,15 @@ fn pairs(rng: &mut Rng, number: usize) -> Vec<Pair> {
         }
         key_ids.push(key_id);
         let name = match pairs.last() {
-            Some([name, _]) if rng.one_in(4) => name.clone(),
-            _ => {
-                let length = rng.length(1, 128);
-                Child::new(tlv::USERNAME, rng.bytes(length))
-            }
+            Some([name, _]) if rng.one_in(4) => name.value.clone(),
+            _ => gen_name::right(rng),
         };
-        pairs.push([name, Child::new(tlv::KEYHANDLE, key_id)]);
+        pairs.push(pair(&name, &key_id));
     }
     pairs
 }
 
-fn list_response(pairs: &[Pair]) -> Vec<u8> {
+pub fn list_response(pairs: &[Pair]) -> Vec<u8> {
     let mut children = vec![status(0)];
     for pair in pairs {
         children.push(Child::new(tlv::USERNAME_AND_KEYHANDLE, tlv::run(pair)));
@@ -213,7 +218,7 @@ fn wrong_list(rng: &mut Rng) -> (Vec<u8>, &'static str) {
     let number = rng.length(2, 8);
     let mut pairs = pairs(rng, number);
     let i = rng.below(number);
-    let what = match rng.below(5) {
+    let what = match rng.below(6) {
         0 | 1 => {
             let other = (i + rng.between(1, number - 1)) % number;
             pairs[i][1] = pairs[other][1].clone();
@@ -221,10 +226,14 @@ fn wrong_list(rng: &mut Rng) -> (Vec<u8>, &'static str) {
         }
         2 => {
             let length = rng.wrong_length(1, 128);
-            pairs[i][0].value = rng.bytes(length);
+            pairs[i][0].value = gen_name::of_length(rng, length);
             "response: name's length"
         }
         3 => {
+            pairs[i][0].value = gen_name::broken(rng);
+            "response: name not UTF-8"
+        }
+        4 => {
             let length = rng.wrong_length(32, 32);
             pairs[i][1].value = rng.bytes(length);
             "response: KeyID's length"

@@ -1,11 +1,11 @@
 //! Tables: some that obey document 01's rules, and stored forms that are certain to break one.
 
+use crate::gen_name::{self, MOST_NAME};
 use crate::rng::Rng;
 use crate::tlv::{self, Child};
 
 pub const MOST_RECORDS: usize = 32;
 pub const MOST_OWN: usize = 8;
-const MOST_NAME: usize = 128;
 
 #[derive(Clone, PartialEq, Eq, Debug)]
 pub struct Record {
@@ -107,20 +107,11 @@ fn counter(rng: &mut Rng) -> u32 {
     }
 }
 
-pub fn name(rng: &mut Rng) -> Vec<u8> {
-    let length = if rng.percent(60) {
-        rng.between(1, 12)
-    } else {
-        rng.length(1, MOST_NAME)
-    };
-    rng.bytes(length)
-}
-
 fn record(rng: &mut Rng, records: &[Record], mixed: [u8; 32]) -> Record {
     Record {
         key_id: fresh_key_id(rng, records),
         mixed,
-        name: name(rng),
+        name: gen_name::right(rng),
         counter: counter(rng),
     }
 }
@@ -183,7 +174,7 @@ pub fn right(rng: &mut Rng) -> Vec<Record> {
         6 => {
             let mut full = records(rng, MOST_RECORDS);
             for record in &mut full {
-                record.name = rng.bytes(MOST_NAME);
+                record.name = gen_name::of_length(rng, MOST_NAME);
             }
             full
         }
@@ -200,26 +191,30 @@ pub fn right(rng: &mut Rng) -> Vec<Record> {
 /// A record written out with one of its children wrong.
 fn spoil_children(rng: &mut Rng, children: &mut Vec<Child>) -> &'static str {
     let i = rng.below(4);
-    match rng.below(6) {
+    match rng.below(7) {
         0 => {
             children[2].value = Vec::new();
             "table: name of 0"
         }
         1 => {
             let length = rng.wrong_length(0, MOST_NAME);
-            children[2].value = rng.bytes(length);
+            children[2].value = gen_name::of_length(rng, length);
             "table: name over 128"
         }
         2 => {
+            children[2].value = gen_name::broken(rng);
+            "table: name not UTF-8"
+        }
+        3 => {
             children.swap(i, (i + rng.between(1, 3)) % 4);
             "table: children's order"
         }
-        3 => {
+        4 => {
             let bit = 1 << rng.below(16);
             children[i].tag ^= bit;
             "table: child's tag"
         }
-        4 => {
+        5 => {
             let i = rng.pick(&[0, 1, 3]);
             let length = children[i].value.len();
             let length = rng.wrong_length(length, length);

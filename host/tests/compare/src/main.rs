@@ -1,6 +1,6 @@
 //! Compares the token with the independent implementation on calls that a seed determines.
 //!
-//!     compare [--seed N] [--calls N] [--seconds N]     compare until one of these is reached
+//!     compare [--seed N] [--calls N] [--seconds N]     a sweep of names, then until one is reached
 //!     compare [--seed N] --only CASE                   one case again
 //!     compare [--seed N] --write-corpus DIRECTORY      seeds for the fuzz targets
 //!
@@ -16,9 +16,11 @@ mod follow;
 mod gen_command;
 mod gen_draft;
 mod gen_lent;
+mod gen_name;
 mod gen_response;
 mod gen_table;
 mod must;
+mod names;
 mod nests;
 mod outcome;
 mod output;
@@ -32,6 +34,7 @@ mod traces;
 
 use check::{Checked, Checker};
 use rng::Rng;
+use std::fmt::Display;
 use std::path::PathBuf;
 use std::process::exit;
 use std::time::{Duration, Instant};
@@ -83,31 +86,54 @@ fn options() -> Options {
 fn case(checker: &mut Checker, seed: u64, case: u64) -> Checked<()> {
     let rng = &mut Rng::new(seed, case);
     checker.start(seed, case);
-    match rng.weighed(&[840, 400, 20, 240, 100, 400, 1, 1, 1, 1]) {
+    match rng.weighed(&[840, 400, 20, 240, 100, 400, 10, 1, 1, 1, 1]) {
         0 => singles::command(rng, checker),
         1 => singles::damaged_command(rng, checker),
         2 => traces::afternoon(rng, checker),
         3 => singles::completion(rng, checker),
         4 => singles::damaged_completion(rng, checker),
         5 => singles::reading(rng, checker),
-        6 => sweeps::command(rng, checker),
-        7 => sweeps::table(rng, checker),
-        8 => sweeps::draft(rng, checker),
+        6 => names::cut_and_joined(rng, checker),
+        7 => sweeps::command(rng, checker),
+        8 => sweeps::table(rng, checker),
+        9 => sweeps::draft(rng, checker),
         _ => sweeps::response(rng, checker),
     }
 }
 
-fn case_or_exit(checker: &mut Checker, seed: u64, number: u64) {
-    if let Err(mismatch) = case(checker, seed, number) {
+/// What was compared; a mismatch is printed and ends the program.
+fn agreed<T>(checked: Checked<T>, again: impl Display) -> T {
+    checked.unwrap_or_else(|mismatch| {
         println!("MISMATCH: {}", mismatch.what);
         print!("{}", mismatch.call);
-        println!("again by: compare --seed {} --only {}", seed, number);
-        exit(1);
-    }
+        println!("again by: compare {}", again);
+        exit(1)
+    })
+}
+
+fn case_or_exit(checker: &mut Checker, seed: u64, number: u64) {
+    let again = format_args!("--seed {} --only {}", seed, number);
+    agreed(case(checker, seed, number), again);
+}
+
+/// The names that no seed chooses. Their classes are not counted among those of the cases, which
+/// must occur there too.
+fn sweep_names() {
+    let start = Instant::now();
+    let mut checker = Checker::new();
+    let swept = names::sweep(&mut Rng::new(0, 0), &mut checker);
+    let names = agreed(swept, "--calls 0");
+    println!(
+        "names: {} names, {} calls in {:.1} s\n",
+        names,
+        checker.counts.calls,
+        start.elapsed().as_secs_f64()
+    );
 }
 
 /// Cases until enough calls were made or the time is over. Gives whether every class occurred.
 fn compare(options: &Options) -> bool {
+    sweep_names();
     let mut checker = Checker::new();
     let start = Instant::now();
     let in_time = || options.time.map_or(true, |time| start.elapsed() < time);

@@ -20,7 +20,7 @@ fn answers(kind: Kind, read: bool) -> Vec<Outcome> {
 }
 
 /// The faults of which each must have been the only one of some call.
-pub const FAULTS: [&str; 86] = [
+pub const FAULTS: [&str; 89] = [
     "output: response too short",
     "output: table too short",
     "table: over 32 records",
@@ -28,6 +28,7 @@ pub const FAULTS: [&str; 86] = [
     "table: KeyID twice",
     "table: name of 0",
     "table: name over 128",
+    "table: name not UTF-8",
     "table: children's order",
     "table: child's tag",
     "table: child's length",
@@ -63,6 +64,7 @@ pub const FAULTS: [&str; 86] = [
     "body: another command's child",
     "body: over 8 handles",
     "body: handle's length",
+    "body: name not UTF-8",
     "body: malformed composite",
     "body: level 9",
     "body: over 8,192 bytes",
@@ -101,6 +103,7 @@ pub const FAULTS: [&str; 86] = [
     "response: certificate first",
     "response: signature's length",
     "response: name's length",
+    "response: name not UTF-8",
     "response: KeyID's length",
     "response: pair's order",
     "response: child too many",

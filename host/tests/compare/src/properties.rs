@@ -19,8 +19,10 @@ pub const READ_BACK: &str = "the signed stretch of a completed response is the d
 pub const DRAFT_ALONE: &str = "a draft alone is no response";
 pub const FIELDS: &str = "fields lie one after another inside the response";
 pub const APART: &str = "other holders' calls change nothing for a holder";
+pub const CUT: &str = "a name cut inside a letter is taken nowhere";
+pub const JOINED: &str = "two names are taken as one";
 
-pub const ALL: [&str; 10] = [
+pub const ALL: [&str; 12] = [
     REFUSAL,
     KEPT,
     APPENDED,
@@ -31,6 +33,8 @@ pub const ALL: [&str; 10] = [
     DRAFT_ALONE,
     FIELDS,
     APART,
+    CUT,
+    JOINED,
 ];
 
 type Held = Result<(), String>;

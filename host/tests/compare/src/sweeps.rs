@@ -5,6 +5,7 @@ use crate::check::{Checked, Checker};
 use crate::follow;
 use crate::gen_command::Scene;
 use crate::gen_draft::{self, REGISTRATION, SIGN};
+use crate::gen_name;
 use crate::gen_response;
 use crate::gen_table::{self, Record};
 use crate::rng::Rng;
@@ -50,7 +51,8 @@ fn small_call(rng: &mut Rng) -> CommandCall {
     let number = rng.between(1, 2);
     let mut records: Vec<Record> = gen_table::records(rng, number);
     for record in &mut records {
-        record.name.truncate(3);
+        let length = rng.between(1, 4);
+        record.name = gen_name::of_length(rng, length);
     }
     let mixed = records[0].mixed;
     let scene = Scene { records, mixed };

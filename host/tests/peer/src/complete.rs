@@ -2,7 +2,7 @@
 
 use crate::command::write_response;
 use crate::draft::{is_krd, is_signed_data};
-use crate::numbers::{length, tag, Attestation, Kind, Status, LEAST_RESPONSE};
+use crate::numbers::{limit, tag, Attestation, Kind, Status, LEAST_RESPONSE};
 use crate::tlv::{Run, Writer};
 use crate::Refusal;
 
@@ -24,7 +24,7 @@ pub fn complete(
         return Err(Refusal::Output);
     }
     let kind = kind_of(kind, draft).ok_or(Refusal::Bytes)?;
-    if !length::SIGNATURE.allows(signature.len()) {
+    if !limit::SIGNATURE.allows(signature) {
         return Err(Refusal::Lent);
     }
     let mut out = Writer::new(response);
@@ -68,7 +68,7 @@ fn kind_of(number: u32, draft: &[u8]) -> Option<Completion> {
 /// "one certificate of 1 to 2,048 bytes for full and an empty one for surrogate".
 fn attested(number: u32, certificate: &[u8]) -> Option<Attestation> {
     Attestation::of(number).filter(|attestation| match attestation {
-        Attestation::Full => length::CERTIFICATE.allows(certificate.len()),
+        Attestation::Full => limit::CERTIFICATE.allows(certificate),
         Attestation::Surrogate => certificate.is_empty(),
     })
 }

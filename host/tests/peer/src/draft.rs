@@ -2,26 +2,26 @@
 //! Complete and the reader.
 
 use crate::lent::{Registering, Signing};
-use crate::numbers::{length, tag, Bytes32, CONFIRMED, VERIFIED};
-use crate::tlv::{Length, Row, Run, Sink, Writer};
+use crate::numbers::{limit, tag, Bytes32, CONFIRMED, VERIFIED};
+use crate::tlv::{Limit, Row, Run, Sink, Writer};
 
 const KRD: [Row; 6] = [
-    Row(tag::AAID, length::AAID),
-    Row(tag::ASSERTION_INFO, Length::Exactly(7)),
-    Row(tag::FINAL_CHALLENGE_HASH, length::CHALLENGE),
-    Row(tag::KEYID, length::KEY_ID),
-    Row(tag::COUNTERS, Length::Exactly(8)),
-    Row(tag::PUB_KEY, length::PUBLIC_KEY),
+    Row(tag::AAID, limit::AAID),
+    Row(tag::ASSERTION_INFO, Limit::Exactly(7)),
+    Row(tag::FINAL_CHALLENGE_HASH, limit::CHALLENGE),
+    Row(tag::KEYID, limit::KEY_ID),
+    Row(tag::COUNTERS, Limit::Exactly(8)),
+    Row(tag::PUB_KEY, limit::PUBLIC_KEY),
 ];
 
 const SIGNED_DATA: [Row; 7] = [
-    Row(tag::AAID, length::AAID),
-    Row(tag::ASSERTION_INFO, Length::Exactly(5)),
-    Row(tag::NONCE, length::NONCE),
-    Row(tag::FINAL_CHALLENGE_HASH, length::CHALLENGE),
-    Row(tag::TRANSACTION_CONTENT_HASH, Length::EmptyOr(32)),
-    Row(tag::KEYID, length::KEY_ID),
-    Row(tag::COUNTERS, Length::Exactly(4)),
+    Row(tag::AAID, limit::AAID),
+    Row(tag::ASSERTION_INFO, Limit::Exactly(5)),
+    Row(tag::NONCE, limit::NONCE),
+    Row(tag::FINAL_CHALLENGE_HASH, limit::CHALLENGE),
+    Row(tag::TRANSACTION_CONTENT_HASH, Limit::EmptyOr(32)),
+    Row(tag::KEYID, limit::KEY_ID),
+    Row(tag::COUNTERS, Limit::Exactly(4)),
 ];
 
 /// "SignCounter 0, RegCounter 0; 4 bytes each".

@@ -1,7 +1,7 @@
 //! The lent results that each command uses, and refusal 4: "a lent result that this command uses
 //! has a wrong length or number". What a command doesn't use is never looked at.
 
-use crate::numbers::{length, Bytes32, Kind, Status};
+use crate::numbers::{limit, Bytes32, Kind, Status};
 use crate::{Lent, Profile};
 
 /// What the fingerprint or the display said: go on, or the status to answer with.
@@ -55,15 +55,14 @@ impl<'a> Call<'a> {
                 verdict: verdict(lent.verdict)?,
                 mixed: lent.mixed.try_into().ok()?,
                 key_id: lent.key_id.try_into().ok()?,
-                public_key: Some(lent.public_key)
-                    .filter(|key| length::PUBLIC_KEY.allows(key.len()))?,
+                public_key: Some(lent.public_key).filter(|key| limit::PUBLIC_KEY.allows(key))?,
             }),
             Kind::Sign => Call::Sign(Signing {
                 profile: profile(lent)?,
                 verdict: verdict(lent.verdict)?,
                 display: display(lent.display)?,
                 mixed: lent.mixed.try_into().ok()?,
-                nonce: Some(lent.nonce).filter(|nonce| length::NONCE.allows(nonce.len()))?,
+                nonce: Some(lent.nonce).filter(|nonce| limit::NONCE.allows(nonce))?,
                 hash: lent.hash.try_into().ok()?,
             }),
             Kind::Deregister => Call::Deregister(lent.mixed.try_into().ok()?),
@@ -92,11 +91,11 @@ fn profile<'a>(lent: &Lent<'a>) -> Option<RightProfile<'a>> {
         metadata,
     } = lent.profile;
     Some(RightProfile {
-        aaid: Some(aaid).filter(|aaid| length::AAID.allows(aaid.len()))?,
+        aaid: Some(aaid).filter(|aaid| limit::AAID.allows(aaid))?,
         version: version.try_into().ok()?,
         signature_algorithm: signature_algorithm.try_into().ok()?,
         key_algorithm: key_algorithm.try_into().ok()?,
-        metadata: Some(metadata).filter(|metadata| length::METADATA.allows(metadata.len()))?,
+        metadata: Some(metadata).filter(|metadata| limit::METADATA.allows(metadata))?,
     })
 }
 

@@ -1,10 +1,10 @@
 //! The tote window token of document 01: the command machine of a FIDO UAF first-factor roaming
 //! authenticator.
 //!
-//! Written from the paper alone, to be compared call by call with the proved token. Quotations are
-//! document 01's. There is no heap and no state: a call is lent bytes and numbers, and gives a
-//! refusal or writes into the caller's outputs. "After these only statuses follow": nothing is
-//! written before the last refusal has been ruled out.
+//! Written from the papers alone, to be compared call by call with the proved token. Quotations are
+//! document 01's, or document 02's where that amends it. There is no heap and no state: a call is
+//! lent bytes and numbers, and gives a refusal or writes into the caller's outputs. "After these
+//! only statuses follow": nothing is written before the last refusal has been ruled out.
 
 #![no_std]
 #![forbid(unsafe_code)]

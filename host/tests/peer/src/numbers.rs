@@ -1,6 +1,6 @@
 //! The paper's numbers: tags, statuses, lengths, and the five commands.
 
-use crate::tlv::Length;
+use crate::tlv::Limit;
 
 /// Tags of fields and signed parts.
 pub(crate) mod tag {
@@ -38,20 +38,21 @@ pub(crate) mod tag {
     pub const TRANSACTION_CONTENT_HASH: u16 = 0x2E10;
 }
 
-/// Lengths of values that stand in more than one place.
-pub(crate) mod length {
-    use super::Length;
+/// Limits of values that stand in more than one place.
+pub(crate) mod limit {
+    use super::Limit;
 
-    pub(crate) const AAID: Length = Length::Exactly(9);
-    pub(crate) const METADATA: Length = Length::Exactly(15);
-    pub(crate) const KEY_ID: Length = Length::Exactly(32);
-    pub(crate) const MIXED: Length = Length::Exactly(32);
-    pub(crate) const USERNAME: Length = Length::Between(1, super::MOST_NAME);
-    pub(crate) const CHALLENGE: Length = Length::Between(1, 32);
-    pub(crate) const NONCE: Length = Length::Between(8, 32);
-    pub(crate) const PUBLIC_KEY: Length = Length::Between(1, 512);
-    pub(crate) const SIGNATURE: Length = Length::Between(1, 512);
-    pub(crate) const CERTIFICATE: Length = Length::Between(1, 2048);
+    pub(crate) const AAID: Limit = Limit::Exactly(9);
+    pub(crate) const METADATA: Limit = Limit::Exactly(15);
+    pub(crate) const KEY_ID: Limit = Limit::Exactly(32);
+    pub(crate) const MIXED: Limit = Limit::Exactly(32);
+    /// "A username must now be well-formed UTF-8 by RFC 3629, still 1 to 128 bytes."
+    pub(crate) const USERNAME: Limit = Limit::Text(1, super::MOST_NAME);
+    pub(crate) const CHALLENGE: Limit = Limit::Between(1, 32);
+    pub(crate) const NONCE: Limit = Limit::Between(8, 32);
+    pub(crate) const PUBLIC_KEY: Limit = Limit::Between(1, 512);
+    pub(crate) const SIGNATURE: Limit = Limit::Between(1, 512);
+    pub(crate) const CERTIFICATE: Limit = Limit::Between(1, 2048);
 }
 
 /// A KeyID, a mixed token, or a transaction hash.

@@ -1,23 +1,23 @@
 //! The children of a command, by the rules under "TLV bytes".
 
-use crate::numbers::{length, tag, Kind, INDEX, MOST_COMMAND};
+use crate::numbers::{limit, tag, Kind, INDEX, MOST_COMMAND};
 use crate::table::KeyIds;
-use crate::tlv::{Length, Run, Tlv};
+use crate::tlv::{Limit, Run, Tlv};
 use Kind::{Deregister, OpenSettings, Register, Sign};
 
 /// A child that commands list.
 struct Rule {
     tag: u16,
-    length: Length,
+    limit: Limit,
     /// Every command that lists it must be given it.
     mandatory: bool,
     listed_by: &'static [Kind],
 }
 
-const fn rule(tag: u16, length: Length, mandatory: bool, listed_by: &'static [Kind]) -> Rule {
+const fn rule(tag: u16, limit: Limit, mandatory: bool, listed_by: &'static [Kind]) -> Rule {
     Rule {
         tag,
-        length,
+        limit,
         mandatory,
         listed_by,
     }
@@ -28,25 +28,25 @@ impl Rule {
         self.listed_by.contains(&kind)
     }
 
-    /// Whether the child may have this value: "index 1, its value 0", for the rest the length.
+    /// Whether the child may have this value: "index 1, its value 0", for the rest the limit.
     fn allows(&self, value: &[u8]) -> bool {
-        self.length.allows(value.len()) && (self.tag != tag::AUTHENTICATOR_INDEX || value == INDEX)
+        self.limit.allows(value) && (self.tag != tag::AUTHENTICATOR_INDEX || value == INDEX)
     }
 }
 
 /// "Field lengths" and what each command lists. GetInfo lists nothing.
 #[rustfmt::skip]
 const RULES: [Rule; 10] = [
-    rule(tag::AUTHENTICATOR_INDEX, Length::Exactly(1), true, &[Register, Sign, Deregister, OpenSettings]),
-    rule(tag::APPID, Length::Between(1, 512), false, &[Register, Sign, Deregister]),
-    rule(tag::FINAL_CHALLENGE_HASH, length::CHALLENGE, true, &[Register, Sign]),
-    rule(tag::USERNAME, length::USERNAME, true, &[Register]),
-    rule(tag::ATTESTATION_TYPE, Length::Exactly(2), true, &[Register]),
-    rule(tag::KEYHANDLE_ACCESS_TOKEN, Length::Between(1, 32), true, &[Register, Sign, Deregister]),
-    rule(tag::USERVERIFY_TOKEN, Length::Any, false, &[Register, Sign]),
-    rule(tag::TRANSACTION_CONTENT, Length::Any, false, &[Sign]),
-    rule(tag::KEYHANDLE, length::KEY_ID, false, &[Sign]),
-    rule(tag::KEYID, Length::EmptyOr(32), true, &[Deregister]),
+    rule(tag::AUTHENTICATOR_INDEX, Limit::Exactly(1), true, &[Register, Sign, Deregister, OpenSettings]),
+    rule(tag::APPID, Limit::Between(1, 512), false, &[Register, Sign, Deregister]),
+    rule(tag::FINAL_CHALLENGE_HASH, limit::CHALLENGE, true, &[Register, Sign]),
+    rule(tag::USERNAME, limit::USERNAME, true, &[Register]),
+    rule(tag::ATTESTATION_TYPE, Limit::Exactly(2), true, &[Register]),
+    rule(tag::KEYHANDLE_ACCESS_TOKEN, Limit::Between(1, 32), true, &[Register, Sign, Deregister]),
+    rule(tag::USERVERIFY_TOKEN, Limit::Any, false, &[Register, Sign]),
+    rule(tag::TRANSACTION_CONTENT, Limit::Any, false, &[Sign]),
+    rule(tag::KEYHANDLE, limit::KEY_ID, false, &[Sign]),
+    rule(tag::KEYID, Limit::EmptyOr(32), true, &[Deregister]),
 ];
 
 /// The level of a command's children: "The command itself is level 1".

@@ -4,9 +4,9 @@
 use core::ops::Range;
 
 use crate::draft::{is_krd, is_signed_data};
-use crate::numbers::{length, tag, Kind, Status, API, CONTENT_TYPE, INDEX, SCHEME};
+use crate::numbers::{limit, tag, Kind, Status, API, CONTENT_TYPE, INDEX, SCHEME};
 use crate::table::KeyIds;
-use crate::tlv::{Field, Length, Row, Run, Sink};
+use crate::tlv::{Field, Limit, Row, Run, Sink};
 use crate::Refusal;
 
 /// The most fields that a response has: a status and eight pairs.
@@ -136,26 +136,26 @@ struct Read {
     signed: Range<usize>,
 }
 
-const STATUS: Row = Row(tag::STATUS_CODE, Length::Exactly(2));
-const SIGNATURE: Row = Row(tag::SIGNATURE, length::SIGNATURE);
-const CERTIFICATE: Row = Row(tag::CERT, length::CERTIFICATE);
+const STATUS: Row = Row(tag::STATUS_CODE, Limit::Exactly(2));
+const SIGNATURE: Row = Row(tag::SIGNATURE, limit::SIGNATURE);
+const CERTIFICATE: Row = Row(tag::CERT, limit::CERTIFICATE);
 
 const INFO: [Row; 7] = [
-    Row(tag::AUTHENTICATOR_INDEX, Length::Exactly(1)),
-    Row(tag::AAID, length::AAID),
-    Row(tag::METADATA, length::METADATA),
+    Row(tag::AUTHENTICATOR_INDEX, Limit::Exactly(1)),
+    Row(tag::AAID, limit::AAID),
+    Row(tag::METADATA, limit::METADATA),
     Row(
         tag::TC_DISPLAY_CONTENT_TYPE,
-        Length::Exactly(CONTENT_TYPE.len()),
+        Limit::Exactly(CONTENT_TYPE.len()),
     ),
-    Row(tag::ASSERTION_SCHEME, Length::Exactly(SCHEME.len())),
-    Row(tag::ATTESTATION_TYPE, Length::Exactly(2)),
-    Row(tag::ATTESTATION_TYPE, Length::Exactly(2)),
+    Row(tag::ASSERTION_SCHEME, Limit::Exactly(SCHEME.len())),
+    Row(tag::ATTESTATION_TYPE, Limit::Exactly(2)),
+    Row(tag::ATTESTATION_TYPE, Limit::Exactly(2)),
 ];
 
 const PAIR: [Row; 2] = [
-    Row(tag::USERNAME, length::USERNAME),
-    Row(tag::KEYHANDLE, length::KEY_ID),
+    Row(tag::USERNAME, limit::USERNAME),
+    Row(tag::KEYHANDLE, limit::KEY_ID),
 ];
 
 /// Nothing, if this is no response.
@@ -203,7 +203,7 @@ fn body(kind: Kind, run: Run, sink: &mut impl Sink) -> Option<Range<usize>> {
 }
 
 fn info(mut run: Run, sink: &mut impl Sink) -> Option<Range<usize>> {
-    let version = run.leaf(&Row(tag::API_VERSION, Length::Exactly(1)), sink)?;
+    let version = run.leaf(&Row(tag::API_VERSION, Limit::Exactly(1)), sink)?;
     let info = run.sole(tag::AUTHENTICATOR_INFO)?;
     let [index, _, _, content_type, scheme, full, surrogate] = info.leaves(&INFO, sink)?;
     let fixed = version == API

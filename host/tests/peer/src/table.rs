@@ -1,15 +1,15 @@
 //! The key table, read in place from its stored form.
 
-use crate::numbers::{length, tag, Bytes32, MOST_OWN, MOST_RECORDS};
-use crate::tlv::{Length, Row, Run, Writer};
+use crate::numbers::{limit, tag, Bytes32, MOST_OWN, MOST_RECORDS};
+use crate::tlv::{Limit, Row, Run, Writer};
 
 /// "per record one USERNAME_AND_KEYHANDLE holding KEYID, KEYHANDLE_ACCESS_TOKEN (the mixed token),
 /// USERNAME, COUNTERS (4 bytes), in that order".
 const RECORD: [Row; 4] = [
-    Row(tag::KEYID, length::KEY_ID),
-    Row(tag::KEYHANDLE_ACCESS_TOKEN, length::MIXED),
-    Row(tag::USERNAME, length::USERNAME),
-    Row(tag::COUNTERS, Length::Exactly(4)),
+    Row(tag::KEYID, limit::KEY_ID),
+    Row(tag::KEYHANDLE_ACCESS_TOKEN, limit::MIXED),
+    Row(tag::USERNAME, limit::USERNAME),
+    Row(tag::COUNTERS, Limit::Exactly(4)),
 ];
 
 /// Where the username starts in a record's stored form: after the record's header, KeyID and mixed

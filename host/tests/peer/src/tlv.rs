@@ -99,10 +99,10 @@ impl<'a> Run<'a> {
     /// The value of the next TLV, which must be as `row` says.
     pub(crate) fn leaf(&mut self, row: &Row, sink: &mut impl Sink) -> Option<&'a [u8]> {
         let Tlv { tag, place, value } = self.tagged(row.0)?;
-        let length = value.len();
-        if !row.1.allows(length) {
+        if !row.1.allows(value) {
             return None;
         }
+        let length = value.len();
         sink.leaf(Field { tag, place, length });
         Some(value)
     }
@@ -137,28 +137,34 @@ impl<'a> Iterator for Run<'a> {
     }
 }
 
-/// How long a value may be.
+/// How long a value may be and, of text, what it may hold.
 #[derive(Clone, Copy, Debug)]
-pub(crate) enum Length {
+pub(crate) enum Limit {
     Any,
     Exactly(usize),
     Between(usize, usize),
     EmptyOr(usize),
+    /// Well-formed UTF-8, of a length between these.
+    Text(usize, usize),
 }
 
-impl Length {
-    pub(crate) fn allows(self, length: usize) -> bool {
+impl Limit {
+    pub(crate) fn allows(self, value: &[u8]) -> bool {
+        let length = value.len();
         match self {
-            Length::Any => true,
-            Length::Exactly(only) => length == only,
-            Length::Between(least, most) => least <= length && length <= most,
-            Length::EmptyOr(only) => length == 0 || length == only,
+            Limit::Any => true,
+            Limit::Exactly(only) => length == only,
+            Limit::Between(least, most) => least <= length && length <= most,
+            Limit::EmptyOr(only) => length == 0 || length == only,
+            Limit::Text(least, most) => {
+                Limit::Between(least, most).allows(value) && core::str::from_utf8(value).is_ok()
+            }
         }
     }
 }
 
-/// The tag and length of one field of a fixed structure.
-pub(crate) struct Row(pub u16, pub Length);
+/// The tag and limit of one field of a fixed structure.
+pub(crate) struct Row(pub u16, pub Limit);
 
 /// A TLV that holds no other: its tag, and its value's place and length.
 #[derive(Clone, Copy, PartialEq, Eq, Debug, Default)]

@@ -7,7 +7,7 @@ use crate::tlv::Writer;
 use crate::{Answer, Lent, Refusal};
 
 /// "A record has a KeyID of 32 bytes, a mixed token of 32 bytes, a username of 1 to 128 bytes and a
-/// 32-bit SignCounter."
+/// 32-bit SignCounter." The username is UTF-8.
 #[derive(Clone, Copy, PartialEq, Eq, Debug)]
 pub struct RecordValue {
     /// The KeyID.

@@ -319,13 +319,22 @@ fn drafts_alone() {
 /// A place and a length.
 type Stretch = (usize, usize);
 
-/// The responses, each with the stretches of its bytes that may be anything.
+/// Ann's name and Bo's in the list of the two.
+const NAMES: [Stretch; 2] = [(18, 3), (65, 2)];
+
+fn is_in(stretches: &[Stretch], place: usize) -> bool {
+    stretches
+        .iter()
+        .any(|&(at, length)| (at..at + length).contains(&place))
+}
+
+/// The responses, each with the stretches of its bytes that may be anything; of a name, any ASCII.
 fn responses() -> Vec<(Vec<u8>, Vec<Stretch>)> {
     vec![
         (info(), vec![(28, 9), (41, 15)]),
         (
             list(&[pair(b"Ann", 1), pair(b"Bo", 2)]),
-            vec![(18, 3), (25, 32), (65, 2), (71, 32)],
+            vec![NAMES[0], (25, 32), NAMES[1], (71, 32)],
         ),
         (
             full(),
@@ -386,13 +395,14 @@ fn responses() -> Vec<(Vec<u8>, Vec<Stretch>)> {
 fn one_byte_damages() {
     for (bytes, free) in responses() {
         let whole = read_fields(&bytes).unwrap();
+        let has_names = free.contains(&NAMES[0]);
         for place in 0..bytes.len() {
-            let is_free = free
-                .iter()
-                .any(|&(at, length)| (at..at + length).contains(&place));
+            let is_name = has_names && is_in(&NAMES, place);
             for change in 1..=255 {
                 let mut other = bytes.clone();
                 other[place] ^= change;
+                // No byte over 7F is a letter among ASCII.
+                let is_free = is_in(&free, place) && !(is_name && other[place] > 0x7F);
                 assert_eq!(is_response(&other), is_free, "{} {}", place, change);
                 if is_free {
                     assert_eq!(read_fields(&other).as_ref(), Ok(&whole));

@@ -346,12 +346,15 @@ fn stored_bytes() {
 
     // Ann's tags and lengths: at 0, 4, 40, 76 and 83, with 4 bytes each.
     let headers = [0..8, 40..44, 76..80, 83..87];
+    let name = 80..83;
     for place in 0..91 {
         let fixed = headers.iter().any(|header| header.contains(&place));
         for change in 1..=255 {
             let mut other = table.clone();
             other[place] ^= change;
-            assert_eq!(is_table(&other), !fixed, "{} {}", place, change);
+            // No byte over 7F is a letter among ASCII.
+            let spoilt = fixed || (name.contains(&place) && other[place] > 0x7F);
+            assert_eq!(is_table(&other), !spoilt, "{} {}", place, change);
         }
     }
 }

@@ -143,6 +143,9 @@ pub const SPOILT: [&str; 5] = [
     "one mixed token",
 ];
 
+/// One more such way, for which one record is enough: its name starts with the tail of a letter.
+pub const TAIL_FIRST: u32 = 6;
+
 /// Breaks the rule with this number, if any, in a table of at least nine records.
 pub fn spoil(table: &mut TableValue, spoilt: u32) {
     let first = table.records[0];
@@ -152,6 +155,7 @@ pub fn spoil(table: &mut TableValue, spoilt: u32) {
         2 => table.records[0].name_length = 0,
         3 => table.records[0].name_length = 129,
         4 => table.records[1].key_id = first.key_id,
+        TAIL_FIRST => table.records[0].name[0] = 0x80,
         _ => {
             for record in &mut table.records[..table.count] {
                 record.mixed = first.mixed;

@@ -1,7 +1,7 @@
 //! The table by value, the two forms mixed, and a chain of calls from the command to the reading.
 
 use crate::bytes::*;
-use crate::call::{of, Call, Completion, SPOILT};
+use crate::call::{of, Call, Completion, SPOILT, TAIL_FIRST};
 use crate::make::*;
 use crate::registrations::registrations;
 use crate::script::Trace;
@@ -56,6 +56,17 @@ pub fn spoilt(t: &mut Trace) {
         }
         let name = format!("{count} records, their stored form is as it was");
         t.run(&name, of(get_info()).dumped());
+    }
+    t.give(&[anns(1)]);
+    for (what, command) in [("info", get_info()), ("sign", sign(&[]))] {
+        let call = Call {
+            spoilt: TAIL_FIRST,
+            ..of(command)
+        };
+        t.run(
+            &format!("one record, a tail first in its name, {what}"),
+            call,
+        );
     }
 }
 

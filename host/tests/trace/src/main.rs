@@ -12,6 +12,7 @@ mod drafts;
 mod forms;
 mod lent;
 mod make;
+mod names;
 mod output;
 mod readings;
 mod refusals;
@@ -27,10 +28,11 @@ use std::{env, fs, io};
 /// A part of the script.
 pub type Section = fn(&mut Trace);
 
-const COMMANDS: [Section; 10] = [
+const COMMANDS: [Section; 11] = [
     commands::examples,
     commands::information,
     registrations::registrations,
+    names::names,
     signatures::signatures,
     commands::removals,
     commands::open_settings,

@@ -4,6 +4,7 @@ use crate::bytes::*;
 use crate::call::{of, Call};
 use crate::drafts::*;
 use crate::make::get_info;
+use crate::names::{BROKEN, JOSE};
 use crate::output::Output;
 use crate::script::Trace;
 use uaf_peer::Answer;
@@ -72,6 +73,11 @@ fn lists(t: &mut Trace) {
     t.read("names of 128", &listed(8, &[b'n'; 128]));
     t.read("a name of 129", &listed(2, &[b'n'; 129]));
     t.read("an empty name", &listed(2, b""));
+    assert!(t.read("an accented name", &listed(2, JOSE)));
+    for (what, name) in BROKEN {
+        let response = names(&[(b"Ann", &key(1)), (name, &key(2))]);
+        assert!(!t.read(&format!("a name, {what}"), &response));
+    }
     for (i, j) in [(0, 1), (0, 2), (1, 2)] {
         t.read(&format!("KeyIDs {i} and {j} equal"), &with_twins(3, i, j));
     }
