@@ -40,7 +40,7 @@ static void found_firms(struct firm firms[FIRMS])
 void afternoon_open(struct afternoon *a, const char *path, size_t *swept)
 {
     found_firms(a->firms);
-    a->challenges = a->signatures = 0;
+    a->challenges = a->registrations = a->signatures = 0;
     a->server.count = 0;
     terminal_open(&a->terminal, path, swept);
     archive_open(&a->archive, &a->terminal.store);
@@ -87,9 +87,11 @@ static const char *holder_name(const struct afternoon *a, struct bytes mixed)
 void show_table(const struct afternoon *a)
 {
     struct record record;
-    for (struct bytes rest = FILLED(a->terminal.table); record_next(&rest, &record);)
-        show("      %-10s %-10.*s SignCounter %u\n", holder_name(a, record.mixed), (int)record.username.size,
-             (const char *)record.username.at, (unsigned)record.count);
+    for (struct bytes rest = FILLED(a->terminal.table); record_next(&rest, &record);) {
+        show("      %-10s ", holder_name(a, record.mixed));
+        show_name(record.username, 10);
+        show(" SignCounter %u\n", (unsigned)record.count);
+    }
 }
 
 void require_same_table(const struct afternoon *a, const struct table *before)
@@ -161,8 +163,8 @@ void enrol(
     if (response->signed_length == 0)
         return;
 
-    char name[48];
-    snprintf(name, sizeof name, "register-%s-%s", a->firms[firm].name, username);
+    char name[48]; /* a username may be any text, so it is no part of a file's name */
+    snprintf(name, sizeof name, "register-%s-%u", a->firms[firm].name, ++a->registrations);
     archive_add(&a->archive, name, &(struct asked){caller, challenge.letters, ""}, response);
     server_enrol(&a->server, username, text(challenge.letters), response);
 }

@@ -17,12 +17,17 @@ struct firm {
 
 enum { NORTHGATE, HOLLIN, FIRST_OTHER, FIRMS = FIRST_OTHER + 4 };
 
+/* A seller whose name ends with an e with two dots: in UTF-8 two bytes, of which a field that is too short cuts off the second. */
+#define ZOE "Zo\xC3\xAB"
+#define ZOE_CUT "Zo\xC3"
+
 struct afternoon {
     struct terminal terminal;
     struct server server;
     struct archive archive;
     struct firm firms[FIRMS];
     unsigned challenges;
+    unsigned registrations;
     unsigned signatures;
 };
 

@@ -91,25 +91,55 @@ static struct bytes handle_in(const struct response *list, const char *username)
     fail_because(username, "not in the list");
 }
 
-static void dead_heat(struct afternoon *a)
+/* A Sign that several keys fit gives their names, and moves no counter. */
+static void list_names(struct afternoon *a, struct response *list)
 {
     const struct table before = a->terminal.table;
+    show("  > Northgate: Sign, no key handle\n");
+    if (sign(a, (struct signing){NORTHGATE, nothing(), "", UAF_SHOWN_CONFIRMED}, UAF_STATUS_OK, list) != NULL)
+        fail_because("Sign", "signed by one of several");
+    show_response(list);
+    require_same_table(a, &before);
+}
+
+static void dead_heat(struct afternoon *a)
+{
     struct response list;
     show("\n3. A dead heat: both of Northgate's keys fit, so neither signs until one is chosen\n");
-    show("  > Northgate: Sign, no key handle\n");
-    if (sign(a, (struct signing){NORTHGATE, nothing(), "", UAF_SHOWN_CONFIRMED}, UAF_STATUS_OK, &list) != NULL)
-        fail_because("Sign", "signed by one of two");
-    show_response(&list);
-    require_same_table(a, &before);
+    list_names(a, &list);
     show("  = two names, no signature; the table is as it was, so no counter moved\n");
 
     show("  > Northgate: Sign with Bo's key handle from the list\n");
     sign_as(a, (struct signing){NORTHGATE, handle_in(&list, "Bo"), "", UAF_SHOWN_CONFIRMED}, "Bo");
 }
 
+static void accented_name(struct afternoon *a)
+{
+    struct response list, again, response;
+    show("\n4. A name with an accent: the list prints it, and no name that is cut inside a letter gets into the list\n");
+    register_seller(a, NORTHGATE, ZOE, UAF_BASIC_SURROGATE);
+    list_names(a, &list);
+    if (list.count != 1 + 3 * 2 || !same(field(&list, 5), text(ZOE))) /* after the status, names and key handles */
+        fail_because("Sign", "other names than the three");
+    show("  = three names; the last is 5a 6f c3 ab, and c3 ab is one letter\n");
+
+    const struct table before = a->terminal.table;
+    show("  > Northgate: Register the same name from a field of 3 bytes, 5a 6f c3\n");
+    enrol(a, NORTHGATE, ZOE_CUT, UAF_BASIC_SURROGATE, UAF_STATUS_PARAMS_INVALID, &response);
+    show_response(&response);
+    require_same_table(a, &before);
+    list_names(a, &again);
+    if (!same(FILLED(list), FILLED(again)))
+        fail_because("Sign", "another list than before");
+    show("  = no record of it; the list is byte for byte as before\n");
+
+    show("  > Northgate: Sign with %s's key handle from the list\n", ZOE);
+    sign_as(a, (struct signing){NORTHGATE, handle_in(&again, ZOE), "", UAF_SHOWN_CONFIRMED}, ZOE);
+}
+
 static void clear_winner(struct afternoon *a)
 {
-    show("\n4. A clear winner: Hollin has one key on this token, and the others are not its own\n");
+    show("\n5. A clear winner: Hollin has one key on this token, and the others are not its own\n");
     show("  > Hollin: Sign, no key handle\n");
     sign_as(a, (struct signing){HOLLIN, nothing(), "", UAF_SHOWN_CONFIRMED}, "Cy");
 }
@@ -120,7 +150,7 @@ static void dividends(struct afternoon *a)
     const char *wrong = "Race 5, win pool: 320.00 on 4";
     struct response response;
     struct hash ann = key_id_of(a, NORTHGATE, "Ann");
-    show("\n5. Two dividends on the display: the seller's yes is part of what is signed\n");
+    show("\n6. Two dividends on the display: the seller's yes is part of what is signed\n");
     show("  > Northgate: Sign with Ann's key handle, and a dividend as content\n");
     show("    display [ %s ]  Ann: yes\n", right);
     sign_as(a, (struct signing){NORTHGATE, WHOLE(ann.bytes), right, UAF_SHOWN_CONFIRMED}, "Ann");
@@ -139,7 +169,7 @@ static void strangers(struct afternoon *a)
     struct response with_hers, with_none;
     struct hash ann = key_id_of(a, NORTHGATE, "Ann"), nobody = sha256(text("nobody"));
     const struct table before = a->terminal.table;
-    show("\n6. Hollin tries Ann's key: it cannot even learn that the key exists\n");
+    show("\n7. Hollin tries Ann's key: it cannot even learn that the key exists\n");
     show("  > Hollin: Sign with Ann's key handle, then with one that nobody has\n");
     sign(a, (struct signing){HOLLIN, WHOLE(ann.bytes), "", UAF_SHOWN_CONFIRMED}, UAF_STATUS_ACCESS_DENIED, &with_hers);
     sign(a, (struct signing){HOLLIN, WHOLE(nobody.bytes), "", UAF_SHOWN_CONFIRMED}, UAF_STATUS_ACCESS_DENIED, &with_none);
@@ -171,7 +201,7 @@ static void full_table(struct afternoon *a)
 {
     const struct table before = a->terminal.table;
     struct response response;
-    show("\n7. A full table: no holder gets more than 8 places, and there are 32 in all\n");
+    show("\n8. A full table: no holder gets more than 8 places, and there are 32 in all\n");
     show("  > Ashby: Register until it has 8 records, each OK; then a ninth\n");
     fill(a, FIRST_OTHER);
     enrol(a, FIRST_OTHER, "Ninth", UAF_BASIC_SURROGATE, UAF_STATUS_INSUFFICIENT_RESOURCES, &response);
@@ -195,18 +225,25 @@ static void freed_place(struct afternoon *a)
     register_seller(a, HOLLIN, "Dee", UAF_BASIC_SURROGATE);
 }
 
+static void deregister_seller(struct afternoon *a, size_t firm, const char *username)
+{
+    struct response response;
+    struct hash key_id = key_id_of(a, firm, username);
+    show("  > %s: Deregister %s's KeyID\n", a->firms[firm].name, username);
+    leave(a, firm, WHOLE(key_id.bytes), UAF_STATUS_OK, &response);
+    show_response(&response);
+}
+
 static void go_home(struct afternoon *a)
 {
     struct response response;
-    struct hash bo = key_id_of(a, NORTHGATE, "Bo");
-    show("\n10. Bo goes home: one record is removed, and Northgate's next sign-in is no tie\n");
-    show("  > Northgate: Deregister Bo's KeyID\n");
-    leave(a, NORTHGATE, WHOLE(bo.bytes), UAF_STATUS_OK, &response);
-    show_response(&response);
+    show("\n11. Bo and %s go home: one record each is removed, and Northgate's next sign-in is no tie\n", ZOE);
+    deregister_seller(a, NORTHGATE, "Bo");
+    deregister_seller(a, NORTHGATE, ZOE);
     show("  > Northgate: Sign, no key handle\n");
     sign_as(a, (struct signing){NORTHGATE, nothing(), "", UAF_SHOWN_CONFIRMED}, "Ann");
 
-    show("\n11. Hollin goes home: an empty KeyID removes all that is Hollin's, and nothing else\n");
+    show("\n12. Hollin goes home: an empty KeyID removes all that is Hollin's, and nothing else\n");
     show("  > Hollin: Deregister with an empty KeyID\n");
     leave(a, HOLLIN, nothing(), UAF_STATUS_OK, &response);
     show_response(&response);
@@ -236,6 +273,7 @@ int main(int argc, char **argv)
     what_it_is(&afternoon);
     register_sellers(&afternoon);
     dead_heat(&afternoon);
+    accented_name(&afternoon);
     clear_winner(&afternoon);
     dividends(&afternoon);
     strangers(&afternoon);

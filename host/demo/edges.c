@@ -45,7 +45,7 @@ void last_count(const struct afternoon *a)
     struct table copy = a->terminal.table;
     struct record record;
     struct response response;
-    show("\n8. The last count, on a copy of the table in which Ann's is 4294967294\n");
+    show("\n9. The last count, on a copy of the table in which Ann's is 4294967294\n");
     set_count(&copy, WHOLE(ann.bytes), UINT32_MAX - 1);
 
     show("  > Northgate: Sign with Ann's key handle\n");
@@ -106,6 +106,22 @@ static void refuse_completion(const char *asked, size_t shortage, uint32_t expec
     show_refusal(asked, refusal, expected, &response, sizeof response);
 }
 
+/* Takes the last byte off a record's name. The lengths of the name and of the record, each below 256, stand in front of it. */
+static void cut_name(struct table *table, struct bytes key_id)
+{
+    enum { HEADER = 4, RECORD_TO_NAME = HEADER + (HEADER + 32) + (HEADER + 32) + HEADER };
+    struct record record;
+    if (!record_find(table, key_id, &record))
+        fail_because("record", "none with this KeyID");
+    uint8_t *name = table->bytes + (record.username.at - table->bytes), *end = name + record.username.size;
+    memmove(end - 1, end, table->size - (size_t)(end - table->bytes));
+    table->size -= 1;
+    name[-2] -= 1;
+    name[2 - RECORD_TO_NAME] -= 1;
+    if (!record_find(table, key_id, &record) || !same(record.username, text(ZOE_CUT)))
+        fail_because(ZOE, "not cut as it should be");
+}
+
 void refusals(const struct afternoon *a)
 {
     const uint8_t info[] = {0x01, 0x34, 0x00, 0x00}, sign_tag[] = {0x03, 0x34, 0x00, 0x00}, nonce[8] = {0};
@@ -113,9 +129,13 @@ void refusals(const struct afternoon *a)
     const struct table *table = &a->terminal.table;
     struct table damaged = *table;
     damaged.size -= 1;
-    show("\n9. Whatever reaches the port: a number from 1 to 5, and no lent byte is changed\n");
+    struct table cut = *table;
+    const struct hash zoe = key_id_of(a, NORTHGATE, ZOE);
+    cut_name(&cut, WHOLE(zoe.bytes));
+    show("\n10. Whatever reaches the port: a number from 1 to 5, and no lent byte is changed\n");
     refuse_completion("an output of 4,095 bytes", 1, UAF_REFUSED_OUTPUT);
     refuse_command("a stored table that lost its last byte", WHOLE(info), UAF_VERIFIED, WHOLE(nonce), &damaged, UAF_REFUSED_TABLE);
+    refuse_command("a stored table with a name cut inside a letter", WHOLE(info), UAF_VERIFIED, WHOLE(nonce), &cut, UAF_REFUSED_TABLE);
     refuse_command("a command of 3 bytes", three, UAF_VERIFIED, WHOLE(nonce), table, UAF_REFUSED_COMMAND);
     refuse_command("a Sign that is lent a nonce of 7 bytes", WHOLE(sign_tag), UAF_VERIFIED, seven, table, UAF_REFUSED_LENT);
     refuse_command("a Sign with a verdict of 256, whose low byte is 0", WHOLE(sign_tag), 256, WHOLE(nonce), table, UAF_REFUSED_LENT);

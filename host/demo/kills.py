@@ -163,6 +163,11 @@ def check_disk(state, ledger):
 # ---- running it
 
 
+def said_in(out):
+    """What was printed, a letter for each byte: a kill may cut a name inside a letter, and KILL_LOG counts bytes."""
+    return out.read_bytes().decode("latin-1")
+
+
 def run(state, **settings):
     """Runs the demonstration to its end, or to that which KILL_AT sets; gives exit status and output."""
     environment = dict(os.environ, **settings)
@@ -171,7 +176,7 @@ def run(state, **settings):
     out = state.parent / (state.name + ".out")
     with open(out, "w") as file:
         status = subprocess.run([DEMO, "-v", state], stdout=file, stderr=subprocess.PIPE, env=environment).returncode
-    return status, out.read_text()
+    return status, said_in(out)
 
 
 def check_recovery(state, ledger):
@@ -426,7 +431,7 @@ def random_moments(folder, runs, whole, chance, progress):
         delay = chance.uniform(0, 1.1 * whole)
         try:
             killed += run_killed(state, out, delay)
-            ledger.hear(out.read_text())
+            ledger.hear(said_in(out))
             ledger.settle(check_disk(state, ledger))
         except Violation as problem:
             raise Violation(f"run {i + 1}, killed after {1000 * delay:.1f} ms: {problem}")

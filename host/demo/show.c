@@ -51,6 +51,15 @@ void show_short(struct bytes value)
         show("..");
 }
 
+/* printf pads by bytes, and a letter may have several: those after its first are 80 to BF. */
+void show_name(struct bytes name, size_t width)
+{
+    size_t letters = 0;
+    for (size_t i = 0; i < name.size; i++)
+        letters += (name.at[i] & 0xC0) != 0x80;
+    show("%.*s%*s", (int)name.size, (const char *)name.at, letters < width ? (int)(width - letters) : 0, "");
+}
+
 static void show_bytes(struct bytes value)
 {
     if (value.size == 0) {

@@ -18,6 +18,9 @@ void show_flush(void);
 void show_event(const char *what, struct bytes key_id);
 void show_count(struct bytes key_id, uint32_t count);
 
+/* A username, which is UTF-8, and spaces after it up to so many letters. */
+void show_name(struct bytes name, size_t width);
+
 /* A response: its status and each field. */
 void show_response(const struct response *response);
 

@@ -2,7 +2,7 @@
  *
  *     8   flags: 1 buffers stand after the front guard page, 2 the table is given by records
  *     16  size of the table's part, then the part: the stored form or, by records, 8 bytes for each: number of the KeyID, number of the
- *         holder, size of the name, its one letter, the counter (32)
+ *         holder, size of the name, its letter as put_name has it, the counter (32)
  *     then each call:
  *     8   flags: 1 the command's outer length is put right; 2 the verdict, 4 the display's result, 8 the version, 16 the signature
  *         algorithm, 32 the key algorithm is changed in 32 bits
@@ -77,19 +77,43 @@ static uint8_t *put_header(uint8_t *at, unsigned tag, size_t size)
     return at;
 }
 
+/* A name of one letter. A code below 0x80 is the letter itself. In one from there on the low four bits choose a letter of two to four bytes, and the
+ * three above them say how many times `a` stands before it; what is left over at the end is `a` too. Seven stands for none before it, and for a
+ * name that is cut inside its last letter: so most names are UTF-8, and one code in sixteen gives one that is not. */
+static void put_name(uint8_t *at, size_t size, unsigned code)
+{
+    static const char *const letters[16] = {
+        "\xC2\x80", "\xC3\xA9", "\xD0\x96", "\xDF\xBF",
+        "\xE0\xA0\x80", "\xE1\x80\x80", "\xE3\x81\x8B", "\xEC\xBF\xBF", "\xED\x80\x80", "\xED\x9F\xBF", "\xEE\x80\x80", "\xEF\xBF\xBF",
+        "\xF0\x90\x80\x80", "\xF0\x9F\x90\x8E", "\xF3\xBF\xBF\xBF", "\xF4\x8F\xBF\xBF",
+    };
+    if (code < 0x80) {
+        memset(at, (int)code, size);
+        return;
+    }
+    const char *letter = letters[code & 0x0F];
+    size_t length = strlen(letter), before = code >> 4 & 7;
+    bool cut = before == 7;
+    memset(at, 'a', size);
+    for (size_t i = cut ? 0 : before; i + length <= size; i += length)
+        memcpy(at + i, letter, length);
+    if (cut && size > 0)
+        at[size - 1] = (uint8_t)letter[0];
+}
+
 /* The stored form of one record. */
 static uint8_t *put_record(uint8_t *at, struct source *part)
 {
     unsigned key = take8(part), holder = take8(part);
     size_t name_size = take8(part);
-    int letter = take8(part);
+    unsigned letter = take8(part);
     at = put_header(at, 0x3802, 36 + 36 + 4 + name_size + 8);
     at = put_header(at, 0x2E09, 32);
     numbered(at, 32, key);
     at = put_header(at + 32, 0x2805, 32);
     numbered(at, 32, holder);
     at = put_header(at + 32, 0x2806, name_size);
-    memset(at, letter, name_size);
+    put_name(at, name_size, letter);
     at = put_header(at + name_size, 0x2E0D, 4);
     for (int i = 0; i < 4; i++)
         *at++ = take8(part);
@@ -245,6 +269,8 @@ static size_t call(const struct numbers *n)
     check_output(&lent.response, response_length, "response");
     check_output(&lent.table_out, table_length, "table_out");
     check_inputs();
+    cover_names(lent.command.peer, lent.command.size, answer == UAF_DRAFT);
+    cover_names(lent.table.peer, lent.table.size, served);
     if (served)
         memcpy(lent.table.peer, lent.table_out.token, table_length);
     else

@@ -218,9 +218,54 @@ size_t take_rest(struct source *source, uint8_t *bytes, size_t most, bool mend)
     return size;
 }
 
-__attribute__((section("__libfuzzer_extra_counters"))) static uint8_t classes[CLASSES];
+/* Nothing here reads them, so without `used` the compiler would leave them out. */
+__attribute__((used, section("__libfuzzer_extra_counters"))) static uint8_t classes[CLASSES];
 
 void cover(size_t class)
 {
     classes[class % CLASSES] = 1;
+}
+
+/* The kinds of bytes that RFC 3629 tells apart, by the last of each. */
+static const uint8_t last_of_kind[] = {0x7F, 0x8F, 0x9F, 0xBF, 0xC1, 0xDF, 0xE0, 0xEC, 0xED, 0xEF, 0xF0, 0xF3, 0xF4, 0xFF};
+enum { KINDS = sizeof last_of_kind, FIRST_TAIL = 1, LAST_TAIL = 3, NONE = KINDS };
+
+static size_t kind_of(uint8_t byte)
+{
+    size_t kind = 0;
+    while (byte > last_of_kind[kind])
+        kind++;
+    return kind;
+}
+
+/* Each byte, and the end, by what stands before it: the last byte that is no tail, and how many tails are after that. */
+static void cover_name(const uint8_t *name, size_t size, bool taken)
+{
+    enum { OF_NAMES = 6144, MOST_TAILS = 3 };
+    size_t lead = NONE, tails = 0;
+    for (size_t i = 0; i <= size; i++) {
+        size_t kind = i < size ? kind_of(name[i]) : NONE;
+        cover(OF_NAMES + ((lead * (MOST_TAILS + 1) + tails) * (NONE + 1) + kind) * 2 + taken);
+        if (kind < FIRST_TAIL || kind > LAST_TAIL) {
+            lead = kind;
+            tails = 0;
+        } else if (tails < MOST_TAILS) {
+            tails++;
+        }
+    }
+}
+
+void cover_names(const uint8_t *run, size_t size, bool taken)
+{
+    for (size_t at = 0; size - at >= 4;) {
+        size_t tag = two_at(run + at), length = two_at(run + at + 2);
+        at += 4;
+        if (holds_others(tag))
+            continue;
+        if (length > size - at)
+            return;
+        if (tag == 0x2806)
+            cover_name(run + at, length, taken);
+        at += length;
+    }
 }

@@ -85,7 +85,11 @@ size_t take_output_size(struct source *source, size_t least);
 size_t take_rest(struct source *source, uint8_t *bytes, size_t most, bool mend);
 
 /* Counts a class of answers as covered, beside the peer's own coverage. */
-enum { CLASSES = 4096 };
+enum { CLASSES = 8192 };
 void cover(size_t class);
+
+/* Counts what the usernames in a run of TLVs are made of; taken: whether the call was right with them. The peer leaves UTF-8 to Rust's library, which
+ * is built without coverage. */
+void cover_names(const uint8_t *run, size_t size, bool taken);
 
 #endif

@@ -58,6 +58,7 @@ static void call(void)
     check_returned(refusal, peers);
     check_outputs(refusal == 0);
     check_input(&lent.response, "response");
+    cover_names(lent.response.peer, lent.response.size, refusal == 0);
     size_t kind = lent.response.size > 0 ? lent.response.peer[0] & 7 : 7;
     size_t count = 0;
     if (refusal == 0)

@@ -34,6 +34,7 @@ static void call(void)
     check_output(&lent.place, written, "place");
     check_output(&lent.length, written, "length");
     check_input(&lent.response, "response");
+    cover_names(lent.response.peer, lent.response.size, refusal == 0);
     size_t kind = lent.response.size > 0 ? lent.response.peer[0] & 7 : 7;
     size_t status = lent.response.size > 8 ? lent.response.peer[8] & 31 : 31;
     cover((kind * 32 + status) * 2 + (refusal == 0));

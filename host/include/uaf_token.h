@@ -14,6 +14,11 @@
  * Results. An entry gives 0, or the number of one refusal. After a refusal no byte, number or array that was lent has changed. After 0 the bytes
  * of an output beyond the length written are as they were. Entries keep nothing between calls, so they may run at the same time.
  *
+ * Usernames. A username is 1 to 128 bytes of well-formed UTF-8 by RFC 3629: each letter whole and in its shortest form, none a surrogate or over
+ * U+10FFFF. NUL and other controls are letters like the rest, so a name is no C string. Any other name is answered by Register with status 0x08,
+ * whatever the verdict; a table that has one is refused with 2, and a list of names that has one is no response, 5. So every name that the token
+ * writes or reads can be printed, and who has to shorten a name cuts it between two letters.
+ *
  * What they need. The archive is for x86-64, ELF, the System V calling convention. It calls no function outside itself, not even of the C
  * library; it has no data that is written, uses no heap and makes no system call. A command takes less than 2 KB of stack, completion and reader
  * less than 1. */
@@ -29,10 +34,12 @@ extern "C" {
 
 /* The version of this interface. The major number rises where a caller that was right may now be wrong: an entry, a parameter, a constant, the
  * stored form or what an entry answers has changed or is gone. The minor number rises where something was added that such a caller need not
- * know, and begins again at 0 with a new major one. */
-#define UAF_TOKEN_MAJOR 1
+ * know, and begins again at 0 with a new major one.
+ *
+ * 2.0: a username is UTF-8. For 1.0 any 1 to 128 bytes were one, so a table that 1.0 wrote may have a name for which 2.0 refuses it. */
+#define UAF_TOKEN_MAJOR 2
 #define UAF_TOKEN_MINOR 0
-#define UAF_TOKEN_VERSION "1.0"
+#define UAF_TOKEN_VERSION "2.0"
 
 /* Refusals, statuses and tags stand in a list each, one X(NAME, number) for each of them. From these are made, below, the constants
  * UAF_REFUSED_NAME, UAF_STATUS_NAME and UAF_TAG_NAME, and the functions that give names for a log. */
@@ -174,7 +181,7 @@ static inline const char *uaf_tag_name(size_t tag)
 #define UAF_MOST_CERTIFICATE 2048
 #define UAF_MOST_APP_ID 512
 #define UAF_MOST_CHALLENGE 32
-#define UAF_MOST_USERNAME 128
+#define UAF_MOST_USERNAME 128 /* bytes, not letters: UTF-8, as is said above */
 #define UAF_MOST_ACCESS_TOKEN 32
 
 /* The verdict of the fingerprint. */
@@ -261,7 +268,8 @@ uint32_t uaf_complete(
     size_t *response_length);
 
 /* The reader's first call: where in a response the signed structure stands, KRD or SIGNED_DATA with its four header bytes. Refusal: 5, also for
- * a draft alone. After 0 it is the *part_length bytes from *place on; both are 0 for a response without one. */
+ * a draft alone and for a list in which a username breaks its rule. After 0 it is the *part_length bytes from *place on; both are 0 for a response
+ * without one. */
 uint32_t uaf_signed_part(const uint8_t *response, size_t response_size, size_t *place, size_t *part_length);
 
 /* The reader's second call: the response tag, the status and, in order, the tag, the value's place and the value's length of each field, that

@@ -15,7 +15,9 @@ SIDES = {"token": "uaf_", "peer": "peer_"}
 ENTRIES = ("command", "complete", "signed_part", "read_fields")
 # How the name of a case ends that is a command on a table, and what heads the column of that kind.
 KINDS = {"": "random, 12", ", long names": "random, 128", ", alike": "alike, 12", ", alike, long names": "alike, 128"}
-ON_TABLE = re.compile(rf"(.*), (\d+) records?({'|'.join(KINDS)})$")
+TEXTS = ("latin", "cyrillic", "kana", "mixed")
+NAMED = {f", {text}{long}": f"{text}, {size}" for text in TEXTS for long, size in (("", 12), (", long names", 128))}
+ON_TABLE = re.compile(rf"(.*), (\d+) records?({'|'.join([*KINDS, *NAMED])})$")
 # The case whose KeyIDs and mixed tokens someone would have to choose. It is told beside the worst ratio and not counted in it.
 CHOSEN = "GetInfo: 32 records, sums alike"
 FIGURES = ["token ns", "peer ns", "token / peer", "floor ns", "token instructions", "peer instructions"]
@@ -51,7 +53,7 @@ class Row:
         self.on_table = ON_TABLE.match(self.case)
 
     def is_command(self):
-        return self.on_table is not None or self.case.startswith(("refused:", CHOSEN))
+        return self.on_table is not None or self.case.startswith(("refused:", "Register:", CHOSEN))
 
     def figures(self):
         floor = nanoseconds(self.floor) if self.floor else "–"
@@ -81,32 +83,45 @@ def listed(rows):
     return markdown(["case", *FIGURES], [[row.case, *row.figures()] for row in rows])
 
 
-def commands(rows):
-    """A line for a command and a number of records: all figures of the first kind of table, and the ratio of the others."""
+def by_size(rows):
+    """The rows of commands on a table, by command and number of records, then by kind of table."""
     sizes = {}
     for row in rows:
         if row.on_table:
             command, records, kind = row.on_table.groups()
             sizes.setdefault((command, records), {})[kind] = row
+    return sizes.items()
+
+
+def ratios(kinds, wanted):
+    return [f"{kinds[kind].ratio:.2f}" if kind in kinds else "" for kind in wanted]
+
+
+def commands(rows):
+    """A line for a command and a number of records: all figures of the first kind of table, and the ratio of the others."""
     first, *others = KINDS
-    cells = [
-        [*size, *kinds[first].figures(), *(f"{kinds[kind].ratio:.2f}" if kind in kinds else "" for kind in others)]
-        for size, kinds in sizes.items()
-    ]
+    cells = [[*size, *kinds[first].figures(), *ratios(kinds, others)] for size, kinds in by_size(rows)]
     return markdown(["command", "records", *FIGURES, *(KINDS[kind] for kind in others)], cells)
 
 
-def alike(rows):
-    """How much more a case takes where KeyIDs and mixed tokens are alike than where they are random."""
+def texts(rows):
+    """A line for a command and a number of records: the ratio for names in each text, and of each length."""
+    cells = [[*size, *ratios(kinds, NAMED)] for size, kinds in by_size(rows) if kinds.keys() & NAMED.keys()]
+    return markdown(["command", "records", *NAMED.values()], cells)
+
+
+def dearer(rows):
+    """How much more a case takes where KeyIDs and mixed tokens are alike than where they are random, and where names are in a text than in ASCII."""
     by_name = {row.case: row for row in rows}
-    pairs = [(row, by_name[row.case.replace(", alike", "")]) for row in rows if ", alike" in row.case]
     cells = []
-    for side in SIDES:
-        for unit in ("ns", "instructions"):
-            ratios = [(getattr(one, unit)[side] / getattr(other, unit)[side], one.case) for one, other in pairs]
-            most, case = max(ratios)
-            cells.append([f"{side}, {unit}", f"{most:.2f}", case])
-    return markdown(["alike / random", "at most", "case"], cells)
+    for one_said, other_said in (("alike", "random"), *((text, "ASCII") for text in TEXTS)):
+        mark = f", {one_said}"
+        pairs = [(row, by_name[row.case.replace(mark, "")]) for row in rows if mark in row.case]
+        for side in SIDES:
+            for unit in ("ns", "instructions"):
+                most, case = max((getattr(one, unit)[side] / getattr(other, unit)[side], one.case) for one, other in pairs)
+                cells.append([f"{one_said} / {other_said}", f"{side}, {unit}", f"{most:.2f}", case])
+    return markdown(["compared", "of", "at most", "case"], cells)
 
 
 def stack(bench, rows):
@@ -135,11 +150,15 @@ def report(bench, archive, rows):
     yield ""
     yield from commands(rows)
     yield ""
-    yield "A command on KeyIDs and mixed tokens of one sum, refused commands, completion and reader:"
+    yield "The ratio with names of 12 and of 128 bytes in other texts, KeyIDs and mixed tokens random:"
+    yield ""
+    yield from texts(rows)
+    yield ""
+    yield "A command on KeyIDs and mixed tokens of one sum, a Register whose name is cut, refused commands, completion and reader:"
     yield ""
     yield from listed([row for row in rows if not row.on_table])
     yield ""
-    yield from alike(rows)
+    yield from dearer(rows)
     yield ""
     yield from stack(bench, rows)
     yield ""

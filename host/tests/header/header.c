@@ -47,6 +47,11 @@ static void tlv(struct bytes *b, unsigned tag, const uint8_t *value, size_t leng
     stretch(b, value, length);
 }
 
+static void letters(struct bytes *b, unsigned tag, const char *text)
+{
+    tlv(b, tag, (const uint8_t *)text, strlen(text));
+}
+
 static void holding(struct bytes *b, unsigned tag, const struct bytes *inner)
 {
     tlv(b, tag, inner->at, inner->length);
@@ -60,7 +65,8 @@ static int same(const struct bytes *b, const uint8_t *at, size_t length)
 /* ---- what the caller lends: each different from each */
 
 static uint8_t aaid[9], metadata[15], mixed[32], key_id[32], public_key[65], nonce[17], hash[32], challenge[20], certificate[33], signature[71];
-static const uint8_t zero = 0, name[] = {'A', 'n', 'n'};
+static const uint8_t zero = 0;
+static const char ann[] = "Ann";
 
 static const struct {
     uint8_t *at;
@@ -187,12 +193,12 @@ static int says(const struct bytes *command, uint32_t verdict, uint32_t display,
     return call(command, verdict, display, table) == 0 && wrote(UAF_RESPONSE, &expected, table);
 }
 
-static void add_record(struct bytes *table, const uint8_t *key, unsigned count)
+static void add_record(struct bytes *table, const uint8_t *key, const char *username, unsigned count)
 {
     struct bytes inner = {{0}, 0};
     tlv(&inner, 0x2E09, key, UAF_KEY_ID_SIZE);
     tlv(&inner, 0x2805, mixed, sizeof mixed);
-    tlv(&inner, 0x2806, name, sizeof name);
+    letters(&inner, 0x2806, username);
     number(&inner, 0x2E0D, 2);
     number(&inner, 4, 2);
     number(&inner, count, 4);
@@ -202,7 +208,7 @@ static void add_record(struct bytes *table, const uint8_t *key, unsigned count)
 static void stored_record(struct bytes *table, unsigned count)
 {
     table->length = 0;
-    add_record(table, key_id, count);
+    add_record(table, key_id, ann, count);
 }
 
 /* So many records of the caller's, none with the KeyID that is lent. */
@@ -212,23 +218,24 @@ static void stored_records(struct bytes *table, unsigned number_of)
     table->length = 0;
     for (unsigned i = 0; i < number_of; i++) {
         memset(key, (int)(i + 1), sizeof key);
-        add_record(table, key, i);
+        add_record(table, key, ann, i);
     }
 }
 
 /* ---- the children that commands share */
 
-static void children_of(struct bytes *children, int registers, const char *content)
+/* With a username they are a Register's. */
+static void children_of(struct bytes *children, const char *username, const char *content)
 {
     static const uint8_t access_token[] = {0xAA}, full[] = {0x07, 0x3E};
     children->length = 0;
     tlv(children, 0x280D, &zero, 1);
     tlv(children, 0x2E0A, challenge, sizeof challenge);
-    if (registers) {
-        tlv(children, 0x2806, name, sizeof name);
+    if (username != NULL) {
+        letters(children, 0x2806, username);
         tlv(children, 0x2807, full, 2);
     } else if (content != NULL) {
-        tlv(children, 0x2810, (const uint8_t *)content, strlen(content));
+        letters(children, 0x2810, content);
     }
     tlv(children, 0x2805, access_token, 1);
 }
@@ -285,7 +292,7 @@ static void registers(void)
 {
     struct bytes children = {{0}, 0}, command = {{0}, 0}, none = {{0}, 0}, draft = {{0}, 0}, table = {{0}, 0};
     const struct numbers n = usual(UAF_VERIFIED, UAF_SHOWN_CONFIRMED);
-    children_of(&children, 1, NULL);
+    children_of(&children, ann, NULL);
     command_of(&command, 0x3402, &children);
     krd(&draft, &n);
     stored_record(&table, 0);
@@ -331,7 +338,7 @@ static void signs(void)
 {
     struct bytes children = {{0}, 0}, command = {{0}, 0}, table = {{0}, 0}, left = {{0}, 0}, draft = {{0}, 0};
     const struct numbers n = usual(UAF_VERIFIED, UAF_SHOWN_CONFIRMED);
-    children_of(&children, 0, "7.40 to 3");
+    children_of(&children, NULL, "7.40 to 3");
     command_of(&command, 0x3403, &children);
     signed_data(&draft, &n, 0x01020305);
     stored_record(&table, 0x01020304);
@@ -407,7 +414,7 @@ static void empty_stretches(void)
     };
     for (int registering = 0; registering < 2; registering++) {
         struct bytes children = {{0}, 0}, command = {{0}, 0}, table = {{0}, 0};
-        children_of(&children, registering, NULL);
+        children_of(&children, registering ? ann : NULL, NULL);
         command_of(&command, registering ? 0x3402 : 0x3403, &children);
         stored_records(&table, 1);
         for (int none = 0; none < STRETCHES_OF_COMMAND; none++) {
@@ -433,7 +440,7 @@ static void some_command(struct bytes *command, unsigned tag)
     static const uint8_t access_token[] = {0xAA};
     struct bytes children = {{0}, 0};
     if (tag == 0x3402 || tag == 0x3403) {
-        children_of(&children, tag == 0x3402, "7.40 to 3");
+        children_of(&children, tag == 0x3402 ? ann : NULL, "7.40 to 3");
     } else if (tag != 0x3401) {
         tlv(&children, 0x280D, &zero, 1);
     }
@@ -602,6 +609,116 @@ static void reads(void)
         "no bytes at all");
 }
 
+/* ---- usernames: well-formed UTF-8 by RFC 3629, or none */
+
+/* Two records of the caller's, of which the second has this name, and the list that a Sign gives for them. */
+static void two_named(struct bytes *table, struct bytes *list, const char *second)
+{
+    static const uint8_t ok[2] = {0, 0};
+    struct bytes whole = {{0}, 0};
+    uint8_t key[UAF_KEY_ID_SIZE];
+    table->length = list->length = 0;
+    tlv(&whole, 0x2808, ok, 2);
+    for (int i = 1; i <= 2; i++) {
+        struct bytes pair = {{0}, 0};
+        memset(key, i, sizeof key);
+        add_record(table, key, i == 1 ? ann : second, 7);
+        letters(&pair, 0x2806, i == 1 ? ann : second);
+        tlv(&pair, 0x2801, key, sizeof key);
+        holding(&whole, 0x3802, &pair);
+    }
+    holding(list, 0x3603, &whole);
+}
+
+/* What the reader's calls write, all of it numbers of one width. */
+struct reading {
+    size_t place, length, tag, status, count, tags[UAF_MOST_FIELDS], places[UAF_MOST_FIELDS], lengths[UAF_MOST_FIELDS];
+};
+
+/* Whether both calls of the reader refuse the bytes, and change nothing. */
+static int is_no_response(const struct bytes *bytes)
+{
+    const struct bytes lent = *bytes;
+    struct reading r, before;
+    memset(&r, UNTOUCHED, sizeof r);
+    before = r;
+    return uaf_signed_part(bytes->at, bytes->length, &r.place, &r.length) == UAF_REFUSED_BYTES
+        && uaf_read_fields(bytes->at, bytes->length, &r.tag, &r.status, &r.count, r.tags, r.places, r.lengths) == UAF_REFUSED_BYTES
+        && memcmp(&before, &r, sizeof r) == 0 && same(&lent, bytes->at, bytes->length);
+}
+
+/* Such a name is registered, stays in the table, is listed and is read from the list. */
+static void name_taken(const char *username)
+{
+    struct bytes children = {{0}, 0}, registering = {{0}, 0}, signing = {{0}, 0};
+    struct bytes none = {{0}, 0}, draft = {{0}, 0}, left = {{0}, 0}, table = {{0}, 0}, list = {{0}, 0};
+    const struct numbers n = usual(UAF_VERIFIED, UAF_SHOWN_CONFIRMED);
+    struct reading r;
+    children_of(&children, username, NULL);
+    command_of(&registering, 0x3402, &children);
+    krd(&draft, &n);
+    add_record(&left, key_id, username, 0);
+    expect(call(&registering, UAF_VERIFIED, UAF_SHOWN_CONFIRMED, &none) == 0 && wrote(UAF_DRAFT, &draft, &left), "Register: a name in UTF-8");
+    children_of(&children, NULL, NULL);
+    command_of(&signing, 0x3403, &children);
+    two_named(&table, &list, username);
+    expect(call(&signing, UAF_VERIFIED, UAF_SHOWN_CONFIRMED, &table) == 0 && wrote(UAF_RESPONSE, &list, &table), "Sign: a name in UTF-8");
+    expect(uaf_signed_part(list.at, list.length, &r.place, &r.length) == 0 && r.length == 0, "a list with a name in UTF-8");
+    expect(uaf_read_fields(list.at, list.length, &r.tag, &r.status, &r.count, r.tags, r.places, r.lengths) == 0, "a name in UTF-8 is not read");
+    expect(
+        r.count == 5 && r.tags[3] == UAF_TAG_USERNAME && r.lengths[3] == strlen(username)
+            && memcmp(list.at + r.places[3], username, r.lengths[3]) == 0,
+        "a listed name in UTF-8");
+}
+
+/* Such a name is 0x08 in a Register, whatever the verdict; 2 in a table; 5 in a list. Nothing that was lent changes. */
+static void name_refused(const char *username)
+{
+    struct bytes children = {{0}, 0}, registering = {{0}, 0}, info = {{0}, 0}, none = {{0}, 0}, table = {{0}, 0}, list = {{0}, 0};
+    children_of(&children, username, NULL);
+    command_of(&registering, 0x3402, &children);
+    stored_records(&table, 1);
+    for (uint32_t verdict = UAF_VERIFIED; verdict <= UAF_LOCKED_OUT; verdict++)
+        expect(says(&registering, verdict, UAF_SHOWN_CONFIRMED, &table, 0x3602, UAF_STATUS_PARAMS_INVALID), "Register: a name that is no UTF-8");
+    command_of(&info, 0x3401, &none);
+    two_named(&table, &list, username);
+    const struct bytes info_lent = info, table_lent = table;
+    expect(call(&info, 0, 0, &table) == UAF_REFUSED_TABLE && all_untouched(), "a table with a name that is no UTF-8");
+    expect(same(&info_lent, info.at, info.length) && same(&table_lent, table.at, table.length), "command or table changed");
+    expect(is_no_response(&list), "a list with a name that is no UTF-8");
+    expect(stretches_are_as_lent(), "a lent stretch changed");
+}
+
+static void usernames(void)
+{
+    /* a name with an accent; then the ends of the ranges of two, three and four bytes, and of one */
+    static const char *const texts[] = {
+        "Zo\xC3\xAB", "\xC2\x80", "\xDF\xBF", "\xE0\xA0\x80", "\xED\x9F\xBF", "\xEE\x80\x80", "\xEF\xBF\xBF", "\xF0\x90\x80\x80",
+        "\xF4\x8F\xBF\xBF", "\x01", "\x7F"};
+    /* the same name cut; letters that are cut otherwise; tails alone; overlong forms; surrogates; beyond U+10FFFF; bytes that never occur */
+    static const char *const others[] = {
+        "Zo\xC3", "\xC3Z", "\xE2\x82", "\xE2\x82Z", "\xF0\x9F\x90", "\xF0\x9F\x90Z", "\xAB", "Z\x80", "\xC3\xAB\xBF", "\xC0\x80", "\xC1\xBF",
+        "\xE0\x9F\xBF", "\xF0\x8F\xBF\xBF", "\xED\xA0\x80", "\xED\xBF\xBF", "\xF4\x90\x80\x80", "\xF5\x80\x80\x80", "\xFE", "\xFF"};
+    char longest[UAF_MOST_USERNAME + 2];
+    for (size_t i = 0; i < sizeof texts / sizeof *texts; i++)
+        name_taken(texts[i]);
+    for (size_t i = 0; i < sizeof others / sizeof *others; i++)
+        name_refused(others[i]);
+
+    /* the limit is one of bytes: 64 letters of two fit, cut at either end they are no text, and with a byte more they are too long */
+    for (size_t i = 0; i < UAF_MOST_USERNAME; i++)
+        longest[i] = "\xC3\xAB"[i % 2];
+    longest[UAF_MOST_USERNAME] = 0;
+    name_taken(longest);
+    name_refused(longest + 1);
+    longest[UAF_MOST_USERNAME - 1] = 0;
+    name_refused(longest);
+    longest[UAF_MOST_USERNAME - 1] = longest[UAF_MOST_USERNAME] = 'Z';
+    longest[UAF_MOST_USERNAME - 2] = 'o';
+    longest[UAF_MOST_USERNAME + 1] = 0;
+    name_refused(longest);
+}
+
 /* ---- constants and names, with the numbers of documents 001 and 01 */
 
 struct named {
@@ -763,6 +880,7 @@ int main(void)
     numbers_lent();
     completes();
     reads();
+    usernames();
     printf("header: %d checks, %s\n", checks,
 #ifdef __cplusplus
            "as C++"

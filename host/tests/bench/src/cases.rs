@@ -1,7 +1,8 @@
-//! What is measured: each command on tables of five sizes and four kinds, each completion, both calls of the reader, and some refusals of each.
+//! What is measured: each command on tables of five sizes and four kinds, and on tables with names in other texts; each completion, both calls of
+//! the reader, and some refusals of each.
 
 use crate::calls::{repeat, Call, Command, Complete, Desk, Outputs, LEAST_TABLE};
-use crate::data::{command, noise, Ids, Setting};
+use crate::data::{command, noise, Ids, Setting, Text};
 use crate::entries::{peer, token};
 use crate::placed::{Placed, Role};
 
@@ -23,6 +24,16 @@ const UNUSED: usize = 99;
 
 const SHORT: usize = 12;
 const LONG: usize = 128;
+
+/// The texts of names beside ASCII, as the name of a case says them.
+const TEXTS: [(&str, Text); 4] = [
+    ("latin", Text::Latin),
+    ("cyrillic", Text::Cyrillic),
+    ("kana", Text::Kana),
+    ("mixed", Text::Mixed),
+];
+/// The first byte of a letter that has two: with it as its last byte a name is cut.
+const HALF: u8 = 0xC3;
 
 const INDEX: (u16, &[u8]) = (0x280D, &[0]);
 const APP_ID: (u16, &[u8]) = (0x2804, b"https://tote.example/facets.json");
@@ -53,11 +64,16 @@ const NAMES: [&str; 8] = [
     "Open settings",
 ];
 
+fn register(name: &[u8]) -> Vec<u8> {
+    let name = (0x2806, name);
+    let children = [INDEX, APP_ID, CHALLENGE, name, FULL, ACCESS_TOKEN];
+    command(0x3402, &children)
+}
+
 fn command_bytes(which: usize, setting: &Setting) -> Vec<u8> {
     // The third record's, or the last one's before it.
     let handle = setting.ids.key_id(setting.records.clamp(1, 3) - 1);
     let first = setting.ids.key_id(0);
-    let name = setting.name(UNUSED);
     let sign = |more: &[(u16, &[u8])]| {
         let children = [&[INDEX, APP_ID, CHALLENGE, ACCESS_TOKEN], more].concat();
         command(0x3403, &children)
@@ -65,11 +81,7 @@ fn command_bytes(which: usize, setting: &Setting) -> Vec<u8> {
     let deregister = |key: &[u8]| command(0x3404, &[INDEX, APP_ID, (0x2E09, key), ACCESS_TOKEN]);
     match which {
         GET_INFO => command(0x3401, &[]),
-        REGISTER => {
-            let name = (0x2806, name.as_slice());
-            let children = [INDEX, APP_ID, CHALLENGE, name, FULL, ACCESS_TOKEN];
-            command(0x3402, &children)
-        }
+        REGISTER => register(&setting.name(UNUSED)),
         SIGN => sign(&[]),
         SIGN_ONE => sign(&[(0x2801, &handle)]),
         SIGN_CONTENT => sign(&[CONTENT, (0x2801, &handle)]),
@@ -123,6 +135,21 @@ fn settings() -> Vec<(String, Setting)> {
             settings.push((said, Setting::new(records, ids, name_length)));
         }
     }
+    settings.extend(settings_in_texts());
+    settings
+}
+
+/// Names in other texts, of the same lengths.
+fn settings_in_texts() -> Vec<(String, Setting)> {
+    let mut settings = Vec::new();
+    for (said, records) in [("1 record", 1), ("8 records", 8), ("32 records", 32)] {
+        for (text_said, text) in TEXTS {
+            for (long, length) in [("", SHORT), (", long names", LONG)] {
+                let setting = Setting::new(records, Ids::Random, length).written_in(text);
+                settings.push((format!("{}, {}{}", said, text_said, long), setting));
+            }
+        }
+    }
     settings
 }
 
@@ -144,12 +171,27 @@ fn hardest() -> Case {
     served("GetInfo: 32 records, sums alike".to_string(), call)
 }
 
-/// A table that is wrong only at the end of its last record, and one byte too little room for it.
+/// A Register whose name is wrong only in its last byte, which is status 0x08.
+fn cut_name() -> Case {
+    let setting = Setting::new(8, Ids::Random, LONG).written_in(Text::Latin);
+    let mut name = setting.name(UNUSED);
+    name[LONG - 1] = HALF;
+    let mut call = command_call(REGISTER, &setting);
+    call.command = Placed::new(&register(&name), Role::Command);
+    let name = "Register: 8 records, its own long name cut".to_string();
+    served(name, Call::Command(call))
+}
+
+/// A table that is wrong only at the end of its last record or of its last name, and one byte too little room for it.
 fn refused_commands() -> Vec<Case> {
     let full = Setting::new(32, Ids::Random, SHORT);
     let mut broken = command_call(SIGN_ONE, &full);
     let last_tag = broken.table.len() - 8;
     broken.table[last_tag] ^= 1;
+    let named = Setting::new(32, Ids::Random, LONG).written_in(Text::Latin);
+    let mut cut = command_call(SIGN_ONE, &named);
+    let last_of_name = cut.table.len() - 8 - 1;
+    cut.table[last_of_name] = HALF;
     let mut short = command_call(SIGN_ONE, &full);
     short.room = LEAST_TABLE - 1;
     let name = |what: &str| format!("refused: {}", what);
@@ -157,6 +199,11 @@ fn refused_commands() -> Vec<Case> {
         refused(
             name("the last of 32 records broken"),
             Call::Command(broken),
+            TABLE,
+        ),
+        refused(
+            name("the last of 32 long names cut"),
+            Call::Command(cut),
             TABLE,
         ),
         refused(
@@ -217,10 +264,10 @@ fn refused_completion(desk: &Desk) -> Case {
     refused(name, complete(1, &draft, 0, &[]), BYTES)
 }
 
-/// The lists of names: of all eight records, and of two.
+/// The lists of names: of all eight records, and of two; then of eight in other texts.
 fn lists(desk: &Desk) -> Vec<(String, Vec<u8>)> {
     let list = |records, ids, length| answer_to(desk, SIGN, &Setting::new(records, ids, length));
-    vec![
+    let mut lists = vec![
         ("eight names".to_string(), list(8, Ids::Random, SHORT)),
         ("eight names, alike".to_string(), list(8, Ids::Alike, SHORT)),
         ("eight long names".to_string(), list(8, Ids::Random, LONG)),
@@ -229,7 +276,15 @@ fn lists(desk: &Desk) -> Vec<(String, Vec<u8>)> {
             list(8, Ids::Alike, LONG),
         ),
         ("two names".to_string(), list(2, Ids::Random, SHORT)),
-    ]
+    ];
+    for (said, text) in TEXTS {
+        for (names, length) in [("eight names", SHORT), ("eight long names", LONG)] {
+            let setting = Setting::new(8, Ids::Random, length).written_in(text);
+            let name = format!("{}, {}", names, said);
+            lists.push((name, answer_to(desk, SIGN, &setting)));
+        }
+    }
+    lists
 }
 
 fn responses(desk: &Desk) -> Vec<(String, Vec<u8>)> {
@@ -244,7 +299,8 @@ fn responses(desk: &Desk) -> Vec<(String, Vec<u8>)> {
     responses
 }
 
-/// Bytes that are a response but for their last field: the tag of a certificate is a signature's, and the eighth KeyID is the first one again.
+/// Bytes that are a response but for their last field or name: the tag of a certificate is a signature's, the eighth KeyID is the first one again, and
+/// the eighth name is cut.
 fn no_responses(desk: &Desk) -> Vec<(String, Vec<u8>)> {
     let (_, full) = completions(desk).swap_remove(0);
     let mut registration = answer(desk, &full);
@@ -253,9 +309,14 @@ fn no_responses(desk: &Desk) -> Vec<(String, Vec<u8>)> {
     let mut list = answer_to(desk, SIGN, &Setting::new(8, Ids::Random, SHORT));
     let (first, last) = (4 + 6 + 4 + 4 + SHORT + 4, list.len() - 32);
     list.copy_within(first..first + 32, last);
+    let named = Setting::new(8, Ids::Random, LONG).written_in(Text::Latin);
+    let mut cut = answer_to(desk, SIGN, &named);
+    let last_of_name = cut.len() - 32 - 4 - 1;
+    cut[last_of_name] = HALF;
     vec![
         ("refused, its last tag".to_string(), registration),
         ("refused, a KeyID twice".to_string(), list),
+        ("refused, the last name cut".to_string(), cut),
     ]
 }
 
@@ -276,6 +337,7 @@ fn both_readings(name: &str, response: &[u8], refusal: u32) -> Vec<Case> {
 pub fn all(desk: &Desk) -> Vec<Case> {
     let mut cases = commands();
     cases.push(hardest());
+    cases.push(cut_name());
     cases.extend(refused_commands());
     for (name, call) in completions(desk) {
         cases.push(served(format!("complete: {}", name), call));

@@ -68,12 +68,66 @@ impl Ids {
     }
 }
 
+/// What names are written in.
+#[derive(Clone, Copy)]
+pub enum Text {
+    /// A byte for each letter.
+    Ascii,
+    /// Mostly a byte, two where there is an accent.
+    Latin,
+    /// Two bytes for each letter, a space of one between words.
+    Cyrillic,
+    /// Three bytes for each letter and for the space.
+    Kana,
+    /// One to four bytes, in an order that nobody can foresee.
+    Mixed,
+}
+
+/// The parts that names in each text are made of.
+const LATIN: &str = "José García Núñez Maria Brontë François Müller Söderström Anna Ruiz Peter Łukasz Dvořák Smith Inês Weiß";
+const CYRILLIC: &str = "Иван Мария Ольга Сергей Петрова Кузнецов Наталья Лев Соколова Пётр Анна Шевченко Юрий Зоя Богданов Ия";
+const KANA: &str = "さくら タナカ ひろし スズキ 山田 花子 サトウ 一郎 ゆき 高橋 ケンジ みどり 渡辺 アヤ なおみ 中村";
+const MIXED: &str = "a Z é ß ж Ω か 字 € 한 🐎 𝄞";
+
+impl Text {
+    /// At least so many letters, but in ASCII; the same ones for a number in every run.
+    fn letters(self, number: usize, least: usize) -> String {
+        let (parts, space) = match self {
+            Text::Ascii => return format!("Seller no {:02}", number),
+            Text::Latin => (LATIN, " "),
+            Text::Cyrillic => (CYRILLIC, " "),
+            Text::Kana => (KANA, "\u{3000}"),
+            Text::Mixed => (MIXED, ""),
+        };
+        let parts: Vec<&str> = parts.split(' ').collect();
+        noise(least, 3000 + number as u64)
+            .iter()
+            .flat_map(|chance| [parts[usize::from(*chance) % parts.len()], space])
+            .collect()
+    }
+
+    /// A name of so many bytes: as many letters as fit, then dots.
+    fn name(self, number: usize, length: usize) -> Vec<u8> {
+        let mut name = String::new();
+        for letter in self.letters(number, length).chars() {
+            if name.len() + letter.len_utf8() > length {
+                break;
+            }
+            name.push(letter);
+        }
+        let mut name = name.into_bytes();
+        name.resize(length, b'.');
+        name
+    }
+}
+
 /// A stored table, eight records to a holder, which is as many as one may have.
 #[derive(Clone, Copy)]
 pub struct Setting {
     pub records: usize,
     pub ids: Ids,
     pub name_length: usize,
+    pub text: Text,
 }
 
 impl Setting {
@@ -82,13 +136,17 @@ impl Setting {
             records,
             ids,
             name_length,
+            text: Text::Ascii,
         }
     }
 
+    /// The same with names in another text.
+    pub fn written_in(self, text: Text) -> Self {
+        Setting { text, ..self }
+    }
+
     pub fn name(&self, record: usize) -> Vec<u8> {
-        let mut name = format!("Seller no {:02}", record).into_bytes();
-        name.resize(self.name_length, b'.');
-        name
+        self.text.name(record, self.name_length)
     }
 
     pub fn table(&self) -> Vec<u8> {
