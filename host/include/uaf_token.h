@@ -17,7 +17,7 @@
  * Usernames. A username is 1 to 128 bytes of well-formed UTF-8 by RFC 3629: each letter whole and in its shortest form, none a surrogate or over
  * U+10FFFF. NUL and other controls are letters like the rest, so a name is no C string. Any other name is answered by Register with status 0x08,
  * whatever the verdict; a table that has one is refused with 2, and a list of names that has one is no response, 5. So every name that the token
- * writes or reads can be printed, and who has to shorten a name cuts it between two letters.
+ * writes or reads is text, and who has to shorten a name cuts it between two letters.
  *
  * What they need. The archive is for x86-64, ELF, the System V calling convention. It calls no function outside itself, not even of the C
  * library; it has no data that is written, uses no heap and makes no system call. A command takes less than 2 KB of stack, completion and reader

@@ -3,3 +3,4 @@ pub mod Conditions
 pub mod Examples
 pub mod Limits
 pub mod LimitsRead
+pub mod Names

@@ -46,7 +46,7 @@ told (refused n) = 100 + n
 told (gave (draft s)) = 200
 told (gave (response s)) = cond (eqb (length s) 10) (getD s 8 0) 300
 
-abbrev call : Form → ℕ → Option ℕ → Table → Lent → List ℕ → ℕ
+abbrev pub call : Form → ℕ → Option ℕ → Table → Lent → List ℕ → ℕ
 call f n m t l s = told (answered (outcome (record { command = s; lent = l; output = n; tableOutput = m }) (handed f t)))
 
 -- one record of the caller stands
@@ -94,21 +94,21 @@ keyId = tlv 0x2E09 []
 abbrev skipped : Tlv
 skipped = tlv 0x0FFF (zeros 1)
 
-record Command : Type 0 where
-  tag : ℕ
-  children : List Tlv
+pub record Command : Type 0 where
+  pub tag : ℕ
+  pub children : List Tlv
 
 abbrev command : ℕ → List Tlv → Command
 command t cs = record { tag = t; children = cs }
 
-abbrev written : Command → List ℕ
+abbrev pub written : Command → List ℕ
 written c = bytes (tlv (c .tag) (bytes (c .children)) ∷ [])
 
 -- each of the five with its mandatory children
-abbrev getInfo : Command
+abbrev pub getInfo : Command
 getInfo = command 0x3401 []
 
-abbrev register : Command
+abbrev pub register : Command
 register = command 0x3402 (index ∷ challengeHash ∷ username ∷ attestationType ∷ accessToken ∷ [])
 
 abbrev sign : Command
@@ -124,7 +124,7 @@ openSettings = command 0x3406 (index ∷ [])
 abbrev adding : Command → List Tlv → Command
 adding c more = command (c .tag) (c .children ++ more)
 
-abbrev with : Command → ℕ → Tlv → Command
+abbrev pub with : Command → ℕ → Tlv → Command
 with c n x = adding (command (c .tag) (select (λ y. not (eqb (y .tag) (x .tag))) (c .children))) (replicate n x)
 
 -- ---- how often a child may be given: of these times those that are not 0x08
@@ -287,7 +287,7 @@ whole-commands = holds wholeCommands refl
 
 -- ---- lent results: these lengths and numbers, and what the five tell; Sign has content, so that the display is asked
 
-abbrev lentOf : (aaid version signatureAlgorithm keyAlgorithm metadata verdict display mixed keyId publicKey nonce contentHash : ℕ) → Lent
+abbrev pub lentOf : (aaid version signatureAlgorithm keyAlgorithm metadata verdict display mixed keyId publicKey nonce contentHash : ℕ) → Lent
 lentOf a v s k m verdict display x i p n h =
     lending (zeros a) v s k (zeros m) verdict display (replicate x 0xC0) (replicate i 0xD0) (zeros p) (zeros n) (zeros h)
 

@@ -21,7 +21,7 @@ use Rattle.model.proofs.Witness.{zeros}
 use Rattle.examples.proofs.Limits.{Line, _gives_, Holds, holds}
 
 -- to unfold `reading` is to unfold all that a completion and the reader compute with
-unfoldable reading : Unit {0}
+unfoldable pub reading : Unit {0}
 unfolding computing isDraft completionOk completed complete reads partsAt parts fieldParts isResponse signedPart readResponse
 reading = tt
 

@@ -1,8 +1,8 @@
 -- One character of RFC 3629: what section 3's table gives for a scalar value is an alternative of section 4's grammar, and what an alternative
 -- takes is what the table gives for one scalar value.
 -- Assumes nothing.
-use mathlib.Core.Path.{_≡_, refl, sym, ap, _∙_}
-use mathlib.Core.Bool.{Bool, true, false, not, cond, _&&_}
+use mathlib.Core.Path.{_≡_, refl, _∙_}
+use mathlib.Core.Bool.{Bool, true, false, cond, _&&_}
 use mathlib.Core.List.{List, [], _∷_, _++_}
 use mathlib.Core.Option.{Option, none, some, Option·map}
 use Prim.Native.Nat.{ℕ, zero, suc, _+_, _-_, _*_, _/_, _%_, _≤_, _<_}
@@ -236,18 +236,49 @@ char v e =
 abbrev pub Completes : ℕ → List Range → List ℕ → Type 0
 Completes v rs p = (bs : List ℕ) → Fit rs bs → (scalar (number v bs) ≡ true) × (octets (number v bs) ≡ p ++ bs)
 
--- bytes of two, three and four that the table gives for v
-module _ (v a b : ℕ) where
-  is-two : 0x80 ≤ v → v ≤ 0x7FF → a ≡ 0xC0 + v / 64 → b ≡ 0x80 + v % 64 → octets v ≡ a ∷ b ∷ []
-  is-two l h p q = octets-two v l h ∙ rw (← p, ← q)
+-- six bits put behind others, and taken off again
+module _ (q r : ℕ) (h : r < 64) where
+  high : (64 * q + r) / 64 ≡ q
+  high = omega arith
 
-  module _ (c : ℕ) where
-    is-three : 0x800 ≤ v → v ≤ 0xFFFF → a ≡ 0xE0 + v / 4096 → b ≡ 0x80 + v / 64 % 64 → c ≡ 0x80 + v % 64 → octets v ≡ a ∷ b ∷ c ∷ []
-    is-three l h p q r = octets-three v l h ∙ rw (← p, ← q, ← r)
+  low : (64 * q + r) % 64 ≡ r
+  low = omega arith
 
-    is-four : (d : ℕ) → 0x10000 ≤ v → a ≡ 0xF0 + v / 262144 → b ≡ 0x80 + v / 4096 % 64 → c ≡ 0x80 + v / 64 % 64 → d ≡ 0x80 + v % 64
-        → octets v ≡ a ∷ b ∷ c ∷ d ∷ []
-    is-four d l p q r s = octets-four v l ∙ rw (← p, ← q, ← r, ← s)
+twice : (v : ℕ) → v / 4096 ≡ v / 64 / 64
+twice v = omega arith
+
+thrice : (v : ℕ) → v / 262144 ≡ v / 64 / 64 / 64
+thrice v = omega arith
+
+back : (x y : ℕ) → y ≤ x → y + (x - y) ≡ x
+back x y h = omega arith
+
+-- what the table gives for a value by its bits
+module _ (x y : ℕ) (h : y < 64) where
+  of-two : 0x80 ≤ 64 * x + y → 64 * x + y ≤ 0x7FF → octets (64 * x + y) ≡ (0xC0 + x) ∷ (0x80 + y) ∷ []
+  of-two l k = octets-two (64 * x + y) l k ∙ rw (high x y h, low x y h)
+
+  module _ (z : ℕ) (i : z < 64) where
+    of-three : 0x800 ≤ 64 * (64 * x + y) + z → 64 * (64 * x + y) + z ≤ 0xFFFF
+        → octets (64 * (64 * x + y) + z) ≡ (0xE0 + x) ∷ (0x80 + y) ∷ (0x80 + z) ∷ []
+    of-three l k =
+        octets-three (64 * (64 * x + y) + z) l k
+        ∙ rw (twice (64 * (64 * x + y) + z), high (64 * x + y) z i, low (64 * x + y) z i, high x y h, low x y h)
+
+    of-four : (w : ℕ) → w < 64 → 0x10000 ≤ 64 * (64 * (64 * x + y) + z) + w
+        → octets (64 * (64 * (64 * x + y) + z) + w) ≡ (0xF0 + x) ∷ (0x80 + y) ∷ (0x80 + z) ∷ (0x80 + w) ∷ []
+    of-four w j l =
+        octets-four (64 * (64 * (64 * x + y) + z) + w) l
+        ∙ rw (
+          thrice (64 * (64 * (64 * x + y) + z) + w),
+          twice (64 * (64 * (64 * x + y) + z) + w),
+          high (64 * (64 * x + y) + z) w j,
+          low (64 * (64 * x + y) + z) w j,
+          high (64 * x + y) z i,
+          low (64 * x + y) z i,
+          high x y h,
+          low x y h,
+        )
 
 one-line : (a : ℕ) → 0x00 ≤ a → a ≤ 0x7F → Completes (bits a) [] (a ∷ [])
 one-line a l h [] f = rw (bits-one a h) (scalar-low a (omega arith), octets-one a h)
@@ -256,9 +287,11 @@ one-line a l h (b ∷ bs) f = absurd f
 two-line : (a : ℕ) → 0xC2 ≤ a → a ≤ 0xDF → Completes (bits a) (tail ∷ []) (a ∷ [])
 two-line a l h [] f = absurd f
 two-line a l h (b ∷ []) f =
-    let v : ℕ = 64 * (a - 0xC0) + (b - 0x80) in
-    rw (bits-two a (omega arith) h)
-    (scalar-low v (omega arith), is-two v a b (omega arith) (omega arith) (omega arith) (omega arith))
+    rw (bits-two a (omega arith) h) (
+      scalar-low (64 * (a - 0xC0) + (b - 0x80)) (omega arith),
+      of-two (a - 0xC0) (b - 0x80) (omega arith) (omega arith) (omega arith)
+          ∙ rw (back a 0xC0 (omega arith), back b 0x80 (f .0)),
+    )
 two-line a l h (b ∷ c ∷ bs) f = absurd (f .2)
 
 -- the alternatives of three bytes differ in the second byte's range, and need only that it gives a scalar value that no fewer bytes would hold
@@ -268,9 +301,12 @@ module _ (lo hi a : ℕ) (l : 0xE0 ≤ a) (h : a ≤ 0xEF) (lo-tail : 0x80 ≤ l
   three-line k [] f = absurd f
   three-line k (b ∷ []) f = absurd (f .2)
   three-line k (b ∷ c ∷ []) f =
-      let v : ℕ = 64 * (64 * (a - 0xE0) + (b - 0x80)) + (c - 0x80) in
-      let g = k v (omega arith) (omega arith) in
-      rw (bits-three a l h) (g .1, is-three v a b c (g .0) (omega arith) (omega arith) (omega arith) (omega arith))
+      let g = k (64 * (64 * (a - 0xE0) + (b - 0x80)) + (c - 0x80)) (omega arith) (omega arith) in
+      rw (bits-three a l h) (
+        g .1,
+        of-three (a - 0xE0) (b - 0x80) (omega arith) (c - 0x80) (omega arith) (g .0) (omega arith)
+            ∙ rw (back a 0xE0 l, back b 0x80 (omega arith), back c 0x80 (f .2 .0)),
+      )
   three-line k (b ∷ c ∷ d ∷ bs) f = absurd (f .2 .2)
 
 -- those of four
@@ -282,9 +318,12 @@ module _ (lo hi a : ℕ) (l : 0xF0 ≤ a) (lo-tail : 0x80 ≤ lo) (hi-tail : hi 
   four-line k (b ∷ []) f = absurd (f .2)
   four-line k (b ∷ c ∷ []) f = absurd (f .2 .2)
   four-line k (b ∷ c ∷ d ∷ []) f =
-      let v : ℕ = 64 * (64 * (64 * (a - 0xF0) + (b - 0x80)) + (c - 0x80)) + (d - 0x80) in
-      let g = k v (omega arith) (omega arith) in
-      rw (bits-four a l) (g .1, is-four v a b c d (g .0) (omega arith) (omega arith) (omega arith) (omega arith))
+      let g = k (64 * (64 * (64 * (a - 0xF0) + (b - 0x80)) + (c - 0x80)) + (d - 0x80)) (omega arith) (omega arith) in
+      rw (bits-four a l) (
+        g .1,
+        of-four (a - 0xF0) (b - 0x80) (omega arith) (c - 0x80) (omega arith) (d - 0x80) (omega arith) (g .0)
+            ∙ rw (back a 0xF0 l, back b 0x80 (omega arith), back c 0x80 (f .2 .0), back d 0x80 (f .2 .2 .0)),
+      )
   four-line k (b ∷ c ∷ d ∷ e ∷ bs) f = absurd (f .2 .2 .2)
 
 -- of every first byte

@@ -2,7 +2,7 @@
 -- inside a character is not; and stretches one after the other.
 -- Assumes nothing.
 use mathlib.Core.Path.{_≡_, refl, sym, ap, _∙_}
-use mathlib.Core.Bool.{Bool, true, false, not, _&&_}
+use mathlib.Core.Bool.{true, false, not}
 use mathlib.Core.List.{List, [], _∷_, _++_, append-assoc, append-nil}
 use mathlib.Core.Option.{Option, none, some}
 use Prim.Native.Nat.{ℕ, zero, suc, _+_, _-_, _*_, _≤_, _<_}
@@ -14,7 +14,7 @@ use Rattle.model.specs.Utf8.{Range, within, tail, follow, utf8After, utf
 use Rattle.model.specs.Tlv.{fits, username}
 use Rattle.model.proofs.Basics.{split, impossible, clash, and-left, and-right, both}
 use Rattle.model.proofs.LayoutLaws.{fits-allowed}
-use Rattle.model.proofs.Utf8Chars.{in-range, range-low, range-high, If, by-alternative, Fit, bits, number, Char, char, Completes, completes}
+use Rattle.model.proofs.Utf8Chars.{in-range, range-low, range-high, If, by-alternative, Fit, bits, char, Completes, completes}
 
 -- ---- scalar values are well formed
 

@@ -1,19 +1,19 @@
 -- The character at a place of a stretch, by its bytes there.
 -- Assumes nothing.
-use mathlib.Core.Path.{_≡_, refl, sym, ap, _∙_}
-use mathlib.Core.Bool.{Bool, true, false, not, _&&_, _||_}
+use mathlib.Core.Path.{_≡_, refl, sym, _∙_}
+use mathlib.Core.Bool.{Bool, true, false, _&&_}
 use mathlib.Core.List.{List, [], _∷_}
-use mathlib.Core.Option.{Option, none, some}
-use Prim.Native.Nat.{ℕ, zero, suc, _+_, _≤_, _<_}
+use mathlib.Core.Option.{none, some}
+use Prim.Native.Nat.{ℕ, _+_, _≤_, _<_}
 use native.Mathlib.Numerals.{add-one}
 use native.Mathlib.Omega.{arith}
-use lib.ListN.{length, getD, drop, replicate, drop-of-length-le, List·getD-eq-default}
+use lib.ListN.{length, getD, drop, drop-of-length-le, List·getD-eq-default}
 use lib.Seq.{drop-cons}
 use lib.Dec.{leb}
 use borrow.Author.Tests.{leb-true, leb-false, le-leb, lt-leb, not-false}
 use Rattle.model.specs.Utf8.{Range, within, tail, follow, utf8After, utf8}
-use Rattle.model.proofs.Basics.{split, clash, and-left, and-right, both}
-use Rattle.model.proofs.Utf8Chars.{in-range, range-low, range-high, alternative}
+use Rattle.model.proofs.Basics.{split, clash, and-left, and-right}
+use Rattle.model.proofs.Utf8Chars.{in-range, alternative}
 use Rattle.utf8.specs.Places.{second, begins, barred, Reached}
 use Rattle.utf8.proofs.PlaceLaws.{common-low, second-tail, more, Leaves, First, no-first, first-of, first, second-barred, second-low, second-within, none-after}
 

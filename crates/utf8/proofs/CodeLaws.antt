@@ -3,17 +3,16 @@
 use mathlib.Core.Path.{_≡_, refl, sym, ap, _∙_}
 use mathlib.Core.Bool.{Bool, true, false, not, _&&_, _||_}
 use mathlib.Core.List.{List, [], _∷_}
-use mathlib.Core.Option.{some}
 use Prim.Native.Nat.{ℕ, zero, suc, _+_, _-_, _≤_, _<_}
 use native.Mathlib.Numerals.{add-one}
 use native.Mathlib.Omega.{arith}
-use lib.ListN.{length, getD, take, set, replicate, length-set, length-replicate, List·getD-eq-default, getD-replicate}
-use lib.Seq.{take-all, getD-set-same, getD-set-other, getD-take, length-take-le}
-use lib.Dec.{leb, ltb, eqb}
+use lib.ListN.{length, getD, take, List·getD-eq-default}
+use lib.Seq.{take-all}
+use lib.Dec.{leb, ltb}
 use lib.Bits.{bitOr, or-lt, or-add-and, and-le-l, and-le-r}
-use borrow.Author.Tests.{ltb-true, ltb-false, lt-ltb, le-ltb, leb-true, leb-false, le-leb, lt-leb, eqb-true, eqb-false}
+use borrow.Author.Tests.{lt-ltb, le-ltb, leb-true, leb-false, le-leb, lt-leb}
 use Rattle.model.specs.Utf8.{utf8After, utf8}
-use Rattle.model.proofs.Basics.{split, clash, and-left, and-right}
+use Rattle.model.proofs.Basics.{split, and-left, and-right}
 use Rattle.model.proofs.Utf8Chars.{alternative}
 use Rattle.utf8.specs.Places.{stands, standsAt, places, padded, ascii}
 

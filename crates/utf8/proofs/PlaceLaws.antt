@@ -1,16 +1,16 @@
 -- A stretch is well formed where each of its bytes, and three zeros behind them, may stand after the three before it.
 -- Assumes nothing.
-use mathlib.Core.Path.{_≡_, refl, sym, ap, _∙_}
-use mathlib.Core.Bool.{Bool, true, false, not, cond, _&&_, _||_, Bool·beq}
+use mathlib.Core.Path.{_≡_, refl, sym, _∙_}
+use mathlib.Core.Bool.{Bool, true, false, not, _&&_, _||_, Bool·beq}
 use mathlib.Core.List.{List, [], _∷_}
 use mathlib.Core.Option.{Option, none, some}
-use Prim.Native.Nat.{ℕ, zero, suc, _+_, _-_, _≤_, _<_}
+use Prim.Native.Nat.{ℕ, zero, suc, _-_, _≤_, _<_}
 use native.Mathlib.Omega.{arith}
-use lib.ListN.{length, replicate}
-use lib.Dec.{leb, ltb, eqb}
+use lib.ListN.{replicate}
+use lib.Dec.{leb, eqb}
 use borrow.Author.Tests.{leb-true, leb-false, le-leb, lt-leb, eqb-true, eqb-false, ne-eqb, le-ltb}
 use Rattle.model.specs.Utf8.{Range, _to_, within, tail, follow, utf8After, utf8}
-use Rattle.model.proofs.Basics.{split, clash, and-left, and-right, both, or-left, or-right}
+use Rattle.model.proofs.Basics.{split, clash, and-left, and-right, or-left, or-right}
 use Rattle.model.proofs.Utf8Chars.{in-range, range-low, range-high, If, by-alternative, alternative}
 use Rattle.utf8.specs.Places.{owed, second, begins, never, barred, stands}
 

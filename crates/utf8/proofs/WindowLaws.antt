@@ -1,16 +1,16 @@
 -- Places of a stretch tested in any order, some of them twice: together they say that it is well formed.
 -- Assumes nothing.
 use mathlib.Core.Path.{_≡_, refl, sym, ap, _∙_}
-use mathlib.Core.Bool.{Bool, true, false, not, cond, _&&_, _||_}
+use mathlib.Core.Bool.{Bool, true, false, _&&_, _||_}
 use mathlib.Core.List.{List, [], _∷_}
 use Prim.Native.Nat.{ℕ, zero, suc, _+_, _-_, _≤_, _<_}
 use native.Mathlib.Omega.{arith}
-use lib.ListN.{length, getD, List·getD-eq-default}
-use lib.Dec.{leb, ltb, eqb}
-use borrow.Author.Tests.{leb-true, leb-false, lt-leb, not-true}
+use lib.ListN.{length}
+use lib.Dec.{leb}
+use borrow.Author.Tests.{leb-true, leb-false, not-true}
 use Rattle.model.specs.Utf8.{utf8}
 use Rattle.model.proofs.Basics.{split, clash, and-left, and-right, both, or-left, or-right}
-use Rattle.utf8.specs.Places.{owed, second, begins, stands, standsAt, places, padded}
+use Rattle.utf8.specs.Places.{owed, stands, standsAt, places, padded}
 use Rattle.utf8.proofs.PlaceLaws.{near, second-within, utf8-near}
 
 -- ---- a place past the end

@@ -1,5 +1,5 @@
-// Whether a stretch of bytes is well-formed UTF-8 (RFC 3629). Each byte is judged by itself and the three before it, so that the bytes of a stretch are
-// judged many at a time and in any order, and the time does not go by what they are.
+// Whether a stretch of bytes is well-formed UTF-8 (RFC 3629). A short one is read character by character. In a longer one each byte is judged by itself
+// and the three before it, so that 16 are judged together, in any order and without a branch.
 ghost use mathlib.Core.Path.{_≡_};
 ghost use mathlib.Core.Bool.{not, _&&_};
 ghost use Prim.Native.Nat.{_+_, _-_, _≤_, _<_};
@@ -7,50 +7,19 @@ ghost use lib.ListN.{length, getD};
 ghost use Rattle.model.specs.Utf8.{within, tail, utf8};
 ghost use Rattle.utf8.specs.Places.{owed, stands, places, padded, never, barred, Reached, ascii};
 
-// Whether one of three bytes has another to come after them. Tests are joined by `|` and `&`, which leave out none, so that there is no branch.
-fn is_owed(a: u8, b: u8, c: u8) -> bool
-    ensures { λ r. ⌜ r ≡ owed a b c ⌝ }
-{
-    (0xF0 <= a) | (0xE0 <= b) | (0xC0 <= c)
-}
+// How many bytes are judged together, and how many that takes: three before them.
+const WINDOW: usize = 16;
 
-// Whether a byte stands nowhere: the first of two that would be too many for their value, or of a character past 10FFFF.
-fn is_never(d: u8) -> bool
-    ensures { λ r. ⌜ r ≡ never d ⌝ }
-{
-    (d == 0xC0) | (d == 0xC1) | (0xF4 < d)
-}
+const SPAN: usize = 19;
 
-// Whether a second byte makes three or four that would be too many for their value, a surrogate, or a character past 10FFFF.
+// Whether a second byte makes three or four that would be too many for their value, a surrogate, or a character past 10FFFF. Tests are joined by `|` and
+// `&`, which leave none out, so that there is no branch.
 fn is_barred(c: u8, d: u8) -> bool
     ensures { λ r. ⌜ r ≡ barred c d ⌝ }
 {
     let three = (c == 0xE0) & (d < 0xA0) | (c == 0xED) & (0x9F < d);
     let four = (c == 0xF0) & (d < 0x90) | (c == 0xF4) & (0x8F < d);
     three | four
-}
-
-// Whether a byte may not stand after three others: it is a tail where none is to come or none where one is, or it is none of those that may.
-fn misplaced(a: u8, b: u8, c: u8, d: u8) -> bool
-    ensures { λ r. ⌜ r ≡ not (stands a b c d) ⌝ }
-{
-    let tail = (0x80 <= d) & (d <= 0xBF);
-    (is_owed(a, b, c) != tail) | is_never(d) | is_barred(c, d)
-}
-
-// Whether each of 16 bytes may stand after the three before it, from a place on. None is left out, so that the compiler takes them all at once.
-fn window(s: &[u8], at: usize) -> bool
-    requires { ⌜ at + 19 ≤ length (now s) ⌝ }
-    ensures { λ r. ⌜ r ≡ places 16 (now (s .entry)) at ⌝ }
-{
-    let mut wrong = false;
-    let mut i: usize = 0;
-    while i < 16 {
-        let p = at + i;
-        wrong = wrong | misplaced(s[p], s[p + 1], s[p + 2], s[p + 3]);
-        i += 1;
-    }
-    !wrong
 }
 
 // Whether a tail stands at a place.
@@ -115,6 +84,59 @@ fn by_chars(s: &[u8]) -> bool
     true
 }
 
+// Whether one of three bytes has another to come after them.
+fn is_owed(a: u8, b: u8, c: u8) -> bool
+    ensures { λ r. ⌜ r ≡ owed a b c ⌝ }
+{
+    (0xF0 <= a) | (0xE0 <= b) | (0xC0 <= c)
+}
+
+// Whether a byte stands nowhere: the first of two that would be too many for their value, or of a character past 10FFFF.
+fn is_never(d: u8) -> bool
+    ensures { λ r. ⌜ r ≡ never d ⌝ }
+{
+    (d == 0xC0) | (d == 0xC1) | (0xF4 < d)
+}
+
+// Whether a byte may not stand after three others: it is a tail where none is to come or none where one is, or it is none of those that may.
+fn misplaced(a: u8, b: u8, c: u8, d: u8) -> bool
+    ensures { λ r. ⌜ r ≡ not (stands a b c d) ⌝ }
+{
+    let tail = (0x80 <= d) & (d <= 0xBF);
+    (is_owed(a, b, c) != tail) | is_never(d) | is_barred(c, d)
+}
+
+// Whether each of 16 bytes may stand after the three before it, from a place on. None is left out, so that the compiler takes them all at once.
+fn window(s: &[u8], at: usize) -> bool
+    requires { ⌜ at + 19 ≤ length (now s) ⌝ }
+    ensures { λ r. ⌜ r ≡ places 16 (now (s .entry)) at ⌝ }
+{
+    let mut wrong = false;
+    let mut i: usize = 0;
+    while i < WINDOW {
+        let p = at + i;
+        wrong = wrong | misplaced(s[p], s[p + 1], s[p + 2], s[p + 3]);
+        i += 1;
+    }
+    !wrong
+}
+
+// Whether each byte from the fourth on may stand after the three before it. The last 16 are judged together, some of them once more.
+fn middle(s: &[u8]) -> bool
+    requires { ⌜ 19 ≤ length (now s) ⌝ }
+    ensures { λ r. ⌜ r ≡ places (length (now (s .entry)) - 3) (now (s .entry)) 0 ⌝ }
+{
+    let last = s.len() - SPAN;
+    let mut at: usize = 0;
+    while at < last {
+        if !window(s, at) {
+            return false;
+        }
+        at += WINDOW;
+    }
+    window(s, last)
+}
+
 // Whether three bytes one after the other may stand after three others.
 fn passes(a: u8, b: u8, c: u8, d: u8, e: u8, f: u8) -> bool
     ensures { λ r. ⌜ r ≡ (stands a b c d && stands b c d e && stands c d e f) ⌝ }
@@ -131,22 +153,6 @@ fn edges(s: &[u8]) -> bool
     let front = passes(0, 0, 0, s[0], s[1], s[2]);
     let back = passes(s[n - 3], s[n - 2], s[n - 1], 0, 0, 0);
     front & back
-}
-
-// Whether each byte from the fourth on may stand after the three before it. The last 16 are judged together, some of them once more.
-fn middle(s: &[u8]) -> bool
-    requires { ⌜ 19 ≤ length (now s) ⌝ }
-    ensures { λ r. ⌜ r ≡ places (length (now (s .entry)) - 3) (now (s .entry)) 0 ⌝ }
-{
-    let last = s.len() - 19;
-    let mut at: usize = 0;
-    while at < last {
-        if !window(s, at) {
-            return false;
-        }
-        at += 16;
-    }
-    window(s, last)
 }
 
 // Whether every byte is ASCII, many at a time.
@@ -169,7 +175,7 @@ pub fn is_utf8(s: &[u8]) -> bool
     if plain(s) {
         return true;
     }
-    if s.len() < 19 {
+    if s.len() < SPAN {
         return by_chars(s);
     }
     if !edges(s) {

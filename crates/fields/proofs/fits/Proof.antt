@@ -1,6 +1,6 @@
 -- The least length, then the greatest.
 use denote.Ref.{now}
-use mathlib.Core.Path.{sym, _∙_}
+use mathlib.Core.Path.{sym}
 use Rattle.fields.proofs.FieldLaws.{fits-short, fits-sized}
 use Rattle.fields.specs.Fields.{named}
 use borrow.Author.Needs.{needs}

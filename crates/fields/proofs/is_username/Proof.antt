@@ -1,7 +1,6 @@
 -- The least length, then the greatest, then the bytes.
 use denote.Ref.{now}
 use mathlib.Core.Path.{refl, sym, _∙_}
-use native.Mathlib.Omega.{arith}
 use borrow.Author.Needs.{needs}
 use Rattle.model.specs.Tlv.{username}
 use Rattle.fields.proofs.FieldLaws.{fits-short, fits-long, fits-else}

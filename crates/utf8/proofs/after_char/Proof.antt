@@ -39,7 +39,7 @@ returns : tie.Need-returns
 returns c = reached-one _ _ (c .before .before .before .pre) (c .if1 .taken)
 
 returns-2 : tie.Need-returns-2
-returns-2 c = none-first _ _ (c .before .before .before .before .pre) (c .before .if1 .left) (c .if2 .taken)
+returns-2 c = none-first _ _ (c .before .before .before .before .pre) (c .before .if1 .left) (omega (arith, c .if2 .taken))
 
 returns-3 : tie.Need-returns-3
 returns-3 c =

@@ -1,7 +1,6 @@
 -- The three places at either end.
 use borrow.Author.Needs.{needs}
 use native.Mathlib.Omega.{arith}
-use mathlib.Core.Path.{_∙_}
 use denote.Ref.{now}
 use Rattle.utf8.proofs.CodeLaws.{front-three, back-three}
 use Rattle.utf8.proofs.edges.Statement.{statement}
