@@ -39,7 +39,10 @@ pub fn command(
         table: Writer::new(table_out),
     };
     let written = serve(&call, command, &table, &mut outputs).unwrap_or_else(|status| {
-        // "a status other than OK leaves the table unchanged"
+        // "a status other than OK leaves the table unchanged". Nothing was written so far; the
+        // compiler is told so, as then it knows where each byte goes.
+        outputs.answer.restart();
+        outputs.table.restart();
         write_response(kind, status, |_| {}, &mut outputs.answer);
         table.write(&mut outputs.table);
         Written::Response

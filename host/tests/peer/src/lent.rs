@@ -1,7 +1,7 @@
 //! The lent results that each command uses, and refusal 4: "a lent result that this command uses
 //! has a wrong length or number". What a command doesn't use is never looked at.
 
-use crate::numbers::{limit, Bytes32, Kind, Status};
+use crate::numbers::{limit, Bytes32, Kind, Status, AAID, METADATA};
 use crate::{Lent, Profile};
 
 /// What the fingerprint or the display said: go on, or the status to answer with.
@@ -10,11 +10,11 @@ pub(crate) type Said = Result<(), Status>;
 /// A profile whose lengths and numbers are right: "AAID of 9 bytes, authenticator version,
 /// signature and public-key algorithm (16 bits each), metadata of 15 bytes".
 pub(crate) struct RightProfile<'a> {
-    pub aaid: &'a [u8],
+    pub aaid: &'a [u8; AAID],
     pub version: u16,
     pub signature_algorithm: u16,
     pub key_algorithm: u16,
-    pub metadata: &'a [u8],
+    pub metadata: &'a [u8; METADATA],
 }
 
 /// A command with the lent results it uses.
@@ -91,11 +91,11 @@ fn profile<'a>(lent: &Lent<'a>) -> Option<RightProfile<'a>> {
         metadata,
     } = lent.profile;
     Some(RightProfile {
-        aaid: Some(aaid).filter(|aaid| limit::AAID.allows(aaid))?,
+        aaid: aaid.try_into().ok()?,
         version: version.try_into().ok()?,
         signature_algorithm: signature_algorithm.try_into().ok()?,
         key_algorithm: key_algorithm.try_into().ok()?,
-        metadata: Some(metadata).filter(|metadata| limit::METADATA.allows(metadata))?,
+        metadata: metadata.try_into().ok()?,
     })
 }
 

@@ -42,8 +42,8 @@ pub(crate) mod tag {
 pub(crate) mod limit {
     use super::Limit;
 
-    pub(crate) const AAID: Limit = Limit::Exactly(9);
-    pub(crate) const METADATA: Limit = Limit::Exactly(15);
+    pub(crate) const AAID: Limit = Limit::Exactly(super::AAID);
+    pub(crate) const METADATA: Limit = Limit::Exactly(super::METADATA);
     pub(crate) const KEY_ID: Limit = Limit::Exactly(32);
     pub(crate) const MIXED: Limit = Limit::Exactly(32);
     /// "A username must now be well-formed UTF-8 by RFC 3629, still 1 to 128 bytes."
@@ -54,6 +54,11 @@ pub(crate) mod limit {
     pub(crate) const SIGNATURE: Limit = Limit::Between(1, 512);
     pub(crate) const CERTIFICATE: Limit = Limit::Between(1, 2048);
 }
+
+/// The length of an AAID.
+pub(crate) const AAID: usize = 9;
+/// The length of metadata.
+pub(crate) const METADATA: usize = 15;
 
 /// A KeyID, a mixed token, or a transaction hash.
 pub(crate) type Bytes32 = [u8; 32];

@@ -50,6 +50,8 @@ pub(crate) struct Run<'a> {
     place: usize,
 }
 
+/// What reads a TLV is always inlined: rows are constants, so where they are read in a row only the
+/// tests of each are left.
 impl<'a> Run<'a> {
     pub(crate) fn new(bytes: &'a [u8]) -> Self {
         Run {
@@ -66,6 +68,7 @@ impl<'a> Run<'a> {
         self.place
     }
 
+    #[inline(always)]
     fn split(&mut self) -> Option<Tlv<'a>> {
         let (tag, length, rest) = match *self.rest {
             [t0, t1, l0, l1, ref rest @ ..] => (
@@ -86,6 +89,7 @@ impl<'a> Run<'a> {
     }
 
     /// The next TLV, which must have this tag.
+    #[inline(always)]
     pub(crate) fn tagged(&mut self, tag: u16) -> Option<Tlv<'a>> {
         self.next()?.ok().filter(|tlv| tlv.tag == tag)
     }
@@ -97,6 +101,7 @@ impl<'a> Run<'a> {
     }
 
     /// The value of the next TLV, which must be as `row` says.
+    #[inline(always)]
     pub(crate) fn leaf(&mut self, row: &Row, sink: &mut impl Sink) -> Option<&'a [u8]> {
         let Tlv { tag, place, value } = self.tagged(row.0)?;
         if !row.1.allows(value) {
@@ -108,6 +113,7 @@ impl<'a> Run<'a> {
     }
 
     /// The values of a run that has exactly these rows in this order.
+    #[inline(always)]
     pub(crate) fn leaves<const N: usize>(
         mut self,
         rows: &[Row; N],
@@ -124,6 +130,7 @@ impl<'a> Run<'a> {
 impl<'a> Iterator for Run<'a> {
     type Item = Result<Tlv<'a>, Malformed>;
 
+    #[inline(always)]
     fn next(&mut self) -> Option<Self::Item> {
         if self.rest.is_empty() {
             return None;
@@ -149,6 +156,8 @@ pub(crate) enum Limit {
 }
 
 impl Limit {
+    /// Always inlined: of a limit that is known, a comparison or two are left.
+    #[inline(always)]
     pub(crate) fn allows(self, value: &[u8]) -> bool {
         let length = value.len();
         match self {
@@ -156,11 +165,16 @@ impl Limit {
             Limit::Exactly(only) => length == only,
             Limit::Between(least, most) => least <= length && length <= most,
             Limit::EmptyOr(only) => length == 0 || length == only,
-            Limit::Text(least, most) => {
-                Limit::Between(least, most).allows(value) && core::str::from_utf8(value).is_ok()
-            }
+            Limit::Text(least, most) => least <= length && length <= most && is_utf8(value),
         }
     }
+}
+
+/// Whether this is well-formed UTF-8. Most names are ASCII, which is seen sooner than by
+/// `from_utf8`. Never inlined, so that what reads fields stays small.
+#[inline(never)]
+fn is_utf8(value: &[u8]) -> bool {
+    value.is_ascii() || core::str::from_utf8(value).is_ok()
 }
 
 /// The tag and limit of one field of a fixed structure.
@@ -199,6 +213,11 @@ pub(crate) struct Writer<'a> {
 impl<'a> Writer<'a> {
     pub(crate) fn new(out: &'a mut [u8]) -> Self {
         Writer { out, length: 0 }
+    }
+
+    /// Forgets what was written.
+    pub(crate) fn restart(&mut self) {
+        self.length = 0;
     }
 
     /// How many bytes were written.
