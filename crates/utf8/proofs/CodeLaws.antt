@@ -14,7 +14,8 @@ use borrow.Author.Tests.{lt-ltb, le-ltb, leb-true, leb-false, le-leb, lt-leb}
 use Rattle.model.specs.Utf8.{utf8After, utf8}
 use Rattle.model.proofs.Basics.{split, and-left, and-right}
 use Rattle.model.proofs.Utf8Chars.{alternative}
-use Rattle.utf8.specs.Places.{stands, standsAt, places, padded, ascii}
+use Rattle.utf8.specs.Places.{stands, each, standsAt, places, padded, plainAt, plain}
+use Rattle.utf8.proofs.WindowLaws.{each-at}
 
 -- ---- tests joined
 
@@ -31,7 +32,7 @@ none-wrong false e = rw e
 pub next-place : (s : List ℕ) (at i : ℕ) {w m : Bool} → w ≡ not (places i s at)
     → m ≡ not (stands (getD s (at + i) 0) (getD s (at + i + 1) 0) (getD s (at + i + 2) 0) (getD s (at + i + 3) 0))
     → (w || m) ≡ not (places (i + 1) s at)
-unfolding places standsAt
+unfolding each standsAt
 next-place s at i e f = rw (add-one i, e, f) (not-both (places i s at) _)
   where
     not-both : (x y : Bool) → (not x || not y) ≡ not (x && y)
@@ -43,13 +44,13 @@ next-place s at i e f = rw (add-one i, e, f) (not-both (places i s at) _)
 module _ (s : List ℕ) (h : 3 ≤ length s) where
   pub front-three : (stands 0 0 0 (getD s 0 0) && stands 0 0 (getD s 0 0) (getD s 1 0) && stands 0 (getD s 0 0) (getD s 1 0) (getD s 2 0))
       ≡ places 3 (padded s) 0
-  unfolding places standsAt
+  unfolding each standsAt
   front-three = refl
 
   pub back-three : (stands (getD s (length s - 3) 0) (getD s (length s - 2) 0) (getD s (length s - 1) 0) 0
       && stands (getD s (length s - 2) 0) (getD s (length s - 1) 0) 0 0 && stands (getD s (length s - 1) 0) 0 0 0)
       ≡ places 3 s (length s - 3)
-  unfolding places standsAt
+  unfolding each standsAt
   back-three =
       let e : length s - 2 ≡ length s - 3 + 1 = omega arith in
       let f : length s - 1 ≡ length s - 3 + 2 = omega arith in
@@ -77,11 +78,15 @@ module _ (s : List ℕ) (h : 3 ≤ length s) where
 
 -- ---- ASCII
 
-pub ascii-utf8 : (s : List ℕ) → ascii s ≡ true → utf8 s ≡ true
-unfolding ascii utf8After
-ascii-utf8 [] e = refl
-ascii-utf8 (a ∷ s) e =
-    rw (alternative 0 a refl (omega arith) (leb-true a 0x7F (and-left (leb a 0x7F) _ e))) (ascii-utf8 s (and-right (leb a 0x7F) _ e))
+ascii-utf8 : (s : List ℕ) → ((i : ℕ) → i < length s → leb (getD s i 0) 0x7F ≡ true) → utf8 s ≡ true
+unfolding utf8After
+ascii-utf8 [] f = refl
+ascii-utf8 (a ∷ s) f =
+    rw (alternative 0 a refl (omega arith) (leb-true a 0x7F (f 0 (omega arith)))) (ascii-utf8 s (λ i h. f (suc i) (omega arith)))
+
+pub plain-utf8 : (s : List ℕ) → plain (length s) s 0 ≡ true → utf8 s ≡ true
+unfolding plainAt
+plain-utf8 s e = ascii-utf8 s (λ i h. each-at (plainAt s) (length s) 0 e i (omega arith) (omega arith))
 
 or-plain : (a b : ℕ) → leb (bitOr a b) 0x7F ≡ (leb a 0x7F && leb b 0x7F)
 or-plain a b =
@@ -91,21 +96,12 @@ or-plain a b =
     (λ f. rw (e, f) (lt-leb (bitOr a b) 0x7F (omega (arith, leb-false b 0x7F f, or-add-and a b, and-le-l a b)))))
     (λ e. rw e (lt-leb (bitOr a b) 0x7F (omega (arith, leb-false a 0x7F e, or-add-and a b, and-le-r a b))))
 
-ascii-more : (i : ℕ) (s : List ℕ) → i < length s → ascii (take (suc i) s) ≡ (ascii (take i s) && leb (getD s i 0) 0x7F)
-unfolding ascii
-ascii-more i [] h = absurd (omega arith)
-ascii-more zero (a ∷ s) h = and-true (leb a 0x7F)
-  where
-    and-true : (x : Bool) → (x && true) ≡ x
-    and-true true = refl
-    and-true false = refl
-ascii-more (suc i) (a ∷ s) h = split (leb a 0x7F) (λ e. rw e (ascii-more i s (omega arith))) (λ e. rw e)
+pub next-plain : (s : List ℕ) (at i any : ℕ) → leb any 0x7F ≡ plain i s at → leb (bitOr any (getD s (at + i) 0)) 0x7F ≡ plain (i + 1) s at
+unfolding each plainAt
+next-plain s at i any e = rw (add-one i, ← e) (or-plain any (getD s (at + i) 0))
 
-pub one-more : (s : List ℕ) (i any : ℕ) → i < length s → leb any 0x7F ≡ ascii (take i s) → leb (bitOr any (getD s i 0)) 0x7F ≡ ascii (take (i + 1) s)
-one-more s i any h e = rw (add-one i, ascii-more i s h, ← e) (or-plain any (getD s i 0))
-
-pub plain-all : (s : List ℕ) (i any : ℕ) → length s ≤ i → leb any 0x7F ≡ ascii (take i s) → ltb any 0x80 ≡ ascii s
-plain-all s i any h e =
+pub below-80 : (any : ℕ) → ltb any 0x80 ≡ leb any 0x7F
+below-80 any =
     split (leb any 0x7F)
-    (λ f. lt-ltb any 0x80 (omega (arith, leb-true any 0x7F f)) ∙ sym f ∙ e ∙ ap ascii (take-all i s h))
-    (λ f. le-ltb any 0x80 (omega (arith, leb-false any 0x7F f)) ∙ sym f ∙ e ∙ ap ascii (take-all i s h))
+    (λ f. lt-ltb any 0x80 (omega (arith, leb-true any 0x7F f)) ∙ sym f)
+    (λ f. le-ltb any 0x80 (omega (arith, leb-false any 0x7F f)) ∙ sym f)

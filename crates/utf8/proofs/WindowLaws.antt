@@ -10,7 +10,7 @@ use lib.Dec.{leb}
 use borrow.Author.Tests.{leb-true, leb-false, not-true}
 use Rattle.model.specs.Utf8.{utf8}
 use Rattle.model.proofs.Basics.{split, clash, and-left, and-right, both, or-left, or-right}
-use Rattle.utf8.specs.Places.{owed, stands, standsAt, places, padded}
+use Rattle.utf8.specs.Places.{owed, stands, each, standsAt, places, padded}
 use Rattle.utf8.proofs.PlaceLaws.{near, second-within, utf8-near}
 
 -- ---- a place past the end
@@ -66,26 +66,50 @@ everywhere s e i = near-at s 0 0 0 (sym (utf8-near s) ∙ e) i
 by-places : (s : List ℕ) → ((i : ℕ) → i < length s + 3 → standsAt (padded s) i ≡ true) → utf8 s ≡ true
 by-places s f = utf8-near s ∙ near-by s 0 0 0 f
 
--- ---- some places one after the other
-
-pub places-at : (n : ℕ) (s : List ℕ) (at : ℕ) → places n s at ≡ true → (i : ℕ) → at ≤ i → i < at + n → standsAt s i ≡ true
-unfolding places
-places-at zero s at e i l h = absurd (omega arith)
-places-at (suc n) s at e i l h =
-    split (leb (at + n) i)
-    (λ f. let g : i ≡ at + n = omega (arith, leb-true (at + n) i f) in rw g (and-right (places n s at) _ e))
-    (λ f. places-at n s at (and-left (places n s at) _ e) i l (leb-false (at + n) i f))
-
-pub places-by : (n : ℕ) (s : List ℕ) (at : ℕ) → ((i : ℕ) → at ≤ i → i < at + n → standsAt s i ≡ true) → places n s at ≡ true
-unfolding places
-places-by zero s at f = refl
-places-by (suc n) s at f = both (places-by n s at (λ i l h. f i l (omega arith))) (f (at + n) (omega arith) (omega arith))
+-- ---- tests that imply each other
 
 iff : {p q : Bool} → (p ≡ true → q ≡ true) → (q ≡ true → p ≡ true) → p ≡ q
 iff {p} {q} f g = split p (λ e. e ∙ sym (f e)) (λ e. split q (λ h. clash (g h) e) (λ h. e ∙ sym h))
 
 untrue : {p q : Bool} → (p ≡ true → q ≡ true) → q ≡ false → p ≡ false
 untrue {p} f e = split p (λ h. clash (f h) e) (λ h. h)
+
+-- ---- a test at places one after the other
+
+module _ (p : ℕ → Bool) where
+  pub each-at : (n at : ℕ) → each p n at ≡ true → (i : ℕ) → at ≤ i → i < at + n → p i ≡ true
+  unfolding each
+  each-at zero at e i l h = absurd (omega arith)
+  each-at (suc n) at e i l h =
+      split (leb (at + n) i)
+      (λ f. let g : i ≡ at + n = omega (arith, leb-true (at + n) i f) in rw g (and-right (each p n at) _ e))
+      (λ f. each-at n at (and-left (each p n at) _ e) i l (leb-false (at + n) i f))
+
+  each-by : (n at : ℕ) → ((i : ℕ) → at ≤ i → i < at + n → p i ≡ true) → each p n at ≡ true
+  unfolding each
+  each-by zero at f = refl
+  each-by (suc n) at f = both (each-by n at (λ i l h. f i l (omega arith))) (f (at + n) (omega arith) (omega arith))
+
+  -- k more that pass, and k that do not
+  pub k-more : (k at : ℕ) → each p at 0 ≡ true → each p k at ≡ true → each p (at + k) 0 ≡ true
+  k-more k at e f =
+      each-by (at + k) 0
+      (λ i m n. split (leb at i)
+      (λ g. each-at k at f i (leb-true at i g) (omega arith))
+      (λ g. each-at at 0 e i m (omega (arith, leb-false at i g))))
+
+  pub k-wrong : (k at n : ℕ) → at + k ≤ n → each p k at ≡ false → each p n 0 ≡ false
+  k-wrong k at n h f = untrue (λ e. each-by k at (λ i l m. each-at n 0 e i (omega arith) (omega arith))) f
+
+  -- the last k together, where all before a place further on have passed
+  pub k-last : (k last at n : ℕ) → last + k ≡ n → last ≤ at → each p at 0 ≡ true → each p k last ≡ each p n 0
+  k-last k last at n h l e =
+      iff
+      (λ f. each-by n 0
+      (λ i m o. split (leb at i)
+      (λ g. each-at k last f i (omega (arith, leb-true at i g)) (omega arith))
+      (λ g. each-at at 0 e i m (omega (arith, leb-false at i g)))))
+      (λ f. each-by k last (λ i m o. each-at n 0 f i (omega arith) (omega arith)))
 
 -- ---- a stretch of three bytes and more
 
@@ -105,44 +129,22 @@ module _ (s : List ℕ) where
       (λ i l. split (leb 3 i)
       (λ m. let k : i - 3 + 3 ≡ i = omega (arith, leb-true 3 i m) in
       rw (ap (standsAt (padded s)) k) at (past-zeros (i - 3) ∙ rest (i - 3) (omega (arith, leb-true 3 i m))))
-      (λ m. places-at 3 (padded s) 0 e i (omega arith) (leb-false 3 i m)))
+      (λ m. each-at (standsAt (padded s)) 3 0 e i (omega arith) (leb-false 3 i m)))
     where
       rest : (i : ℕ) → i < length s → standsAt s i ≡ true
       rest i l =
           split (leb (length s - 3) i)
-          (λ m. places-at 3 s (length s - 3) f i (leb-true (length s - 3) i m) (omega arith))
-          (λ m. places-at (length s - 3) s 0 g i (omega arith) (omega (arith, leb-false (length s - 3) i m)))
+          (λ m. each-at (standsAt s) 3 (length s - 3) f i (leb-true (length s - 3) i m) (omega arith))
+          (λ m. each-at (standsAt s) (length s - 3) 0 g i (omega arith) (omega (arith, leb-false (length s - 3) i m)))
 
   abbrev Edges : Bool
   Edges = places 3 (padded s) 0 && places 3 s (length s - 3)
 
   pub edges-wrong : Edges ≡ false → utf8 s ≡ false
   edges-wrong f =
-      untrue (λ e. both (places-by 3 (padded s) 0 (λ i l h. everywhere s e i)) (places-by 3 s (length s - 3) (λ i l h. inside e i))) f
+      untrue (λ e. both (each-by (standsAt (padded s)) 3 0 (λ i l h. everywhere s e i)) (each-by (standsAt s) 3 (length s - 3) (λ i l h. inside e i))) f
 
   pub long-is : 3 ≤ length s → Edges ≡ true → places (length s - 3) s 0 ≡ utf8 s
   long-is h e =
       iff (long-all h (and-left (places 3 (padded s) 0) _ e) (and-right (places 3 (padded s) 0) _ e))
-      (λ u. places-by (length s - 3) s 0 (λ i l m. inside u i))
-
-  -- the last 16 together, where all before a place further on have passed
-  pub last-window : (at : ℕ) → 19 ≤ length s → length s - 19 ≤ at → places at s 0 ≡ true → places 16 s (length s - 19) ≡ places (length s - 3) s 0
-  last-window at h l e =
-      iff
-      (λ f. places-by (length s - 3) s 0
-      (λ i m n. split (leb at i)
-      (λ g. places-at 16 s (length s - 19) f i (omega (arith, leb-true at i g)) (omega arith))
-      (λ g. places-at at s 0 e i m (omega (arith, leb-false at i g)))))
-      (λ f. places-by 16 s (length s - 19) (λ i m n. places-at (length s - 3) s 0 f i (omega arith) (omega arith)))
-
-  -- a window that passes, and one that does not
-  pub one-more : (at : ℕ) → places at s 0 ≡ true → places 16 s at ≡ true → places (at + 16) s 0 ≡ true
-  one-more at e f =
-      places-by (at + 16) s 0
-      (λ i m n. split (leb at i)
-      (λ g. places-at 16 s at f i (leb-true at i g) (omega arith))
-      (λ g. places-at at s 0 e i m (omega (arith, leb-false at i g))))
-
-  pub window-wrong : (at : ℕ) → at + 19 ≤ length s → places 16 s at ≡ false → places (length s - 3) s 0 ≡ false
-  window-wrong at h f =
-      untrue (λ e. places-by 16 s at (λ i m n. places-at (length s - 3) s 0 e i (omega arith) (omega arith))) f
+      (λ u. each-by (standsAt s) (length s - 3) 0 (λ i l m. inside u i))

@@ -37,13 +37,17 @@ barred c d =
 unfoldable pub stands : ℕ → ℕ → ℕ → ℕ → Bool
 stands a b c d = cond (owed a b c) (within (second c) d) (begins d)
 
--- the byte after three others may, at a place; at n places one after the other. Past the end there are zeros
+-- a test passes at n places one after the other
+unfoldable pub each : (ℕ → Bool) → ℕ → ℕ → Bool
+each p zero at = true
+each p (suc n) at = each p n at && p (at + n)
+
+-- the byte after three others may stand there, at a place; past the end there are zeros
 unfoldable pub standsAt : List ℕ → ℕ → Bool
 standsAt s at = stands (getD s at 0) (getD s (at + 1) 0) (getD s (at + 2) 0) (getD s (at + 3) 0)
 
-unfoldable pub places : ℕ → List ℕ → ℕ → Bool
-places zero s at = true
-places (suc n) s at = places n s at && standsAt s (at + n)
+abbrev pub places : ℕ → List ℕ → ℕ → Bool
+places n s at = each (standsAt s) n at
 
 -- a stretch with three zeros in front
 abbrev pub padded : List ℕ → List ℕ
@@ -56,7 +60,9 @@ pub record Reached (s : List ℕ) (at r : ℕ) : Type 0 where
   pub same : utf8 (drop at s) ≡ utf8 (drop r s)
   pub stops : r ≡ at → utf8 (drop at s) ≡ false
 
--- every byte is below 0x80
-unfoldable pub ascii : List ℕ → Bool
-ascii [] = true
-ascii (a ∷ s) = leb a 0x7F && ascii s
+-- a byte is ASCII, at a place; so many are
+unfoldable pub plainAt : List ℕ → ℕ → Bool
+plainAt s at = leb (getD s at 0) 0x7F
+
+abbrev pub plain : ℕ → List ℕ → ℕ → Bool
+plain n s at = each (plainAt s) n at

@@ -5,7 +5,7 @@ ghost use mathlib.Core.Bool.{not, _&&_};
 ghost use Prim.Native.Nat.{_+_, _-_, _≤_, _<_};
 ghost use lib.ListN.{length, getD};
 ghost use Rattle.model.specs.Utf8.{within, tail, utf8};
-ghost use Rattle.utf8.specs.Places.{owed, stands, places, padded, never, barred, Reached, ascii};
+ghost use Rattle.utf8.specs.Places.{owed, stands, places, padded, never, barred, Reached, plain};
 
 // How many bytes are judged together, and how many that takes: three before them.
 const WINDOW: usize = 16;
@@ -155,24 +155,58 @@ fn edges(s: &[u8]) -> bool
     front & back
 }
 
-// Whether every byte is ASCII, many at a time.
-fn plain(s: &[u8]) -> bool
-    ensures { λ r. ⌜ r ≡ ascii (now (s .entry)) ⌝ }
+// Whether n bytes from a place on are ASCII. None is left out: where n is a constant, the compiler takes them all at once.
+fn is_plain(s: &[u8], at: usize, n: usize) -> bool
+    requires { ⌜ at + n ≤ length (now s) ⌝ }
+    ensures { λ r. ⌜ r ≡ plain n (now (s .entry)) at ⌝ }
 {
     let mut any: u8 = 0;
     let mut i: usize = 0;
-    while i < s.len() {
-        any = any | s[i];
+    while i < n {
+        any = any | s[at + i];
         i += 1;
     }
     any < 0x80
+}
+
+// Whether every byte of 16 and more is ASCII. The last 16 are looked at together.
+fn is_long_plain(s: &[u8]) -> bool
+    requires { ⌜ 16 ≤ length (now s) ⌝ }
+    ensures { λ r. ⌜ r ≡ plain (length (now (s .entry))) (now (s .entry)) 0 ⌝ }
+{
+    let last = s.len() - WINDOW;
+    let mut at: usize = 0;
+    while at < last {
+        if !is_plain(s, at, WINDOW) {
+            return false;
+        }
+        at += WINDOW;
+    }
+    is_plain(s, last, WINDOW)
+}
+
+// Whether every byte is ASCII: 16 at a time, or eight.
+fn is_all_plain(s: &[u8]) -> bool
+    ensures { λ r. ⌜ r ≡ plain (length (now (s .entry))) (now (s .entry)) 0 ⌝ }
+{
+    let n = s.len();
+    if n < 8 {
+        return is_plain(s, 0, n);
+    }
+    if WINDOW <= n {
+        return is_long_plain(s);
+    }
+    if !is_plain(s, 0, 8) {
+        return false;
+    }
+    is_plain(s, n - 8, 8)
 }
 
 // Whether a stretch is well-formed UTF-8.
 pub fn is_utf8(s: &[u8]) -> bool
     ensures { λ r. ⌜ r ≡ utf8 (now (s .entry)) ⌝ }
 {
-    if plain(s) {
+    if is_all_plain(s) {
         return true;
     }
     if s.len() < SPAN {

@@ -4,13 +4,13 @@ use mathlib.Core.Path.{sym, _∙_}
 use native.Mathlib.Omega.{arith}
 use denote.Ref.{now}
 use borrow.Author.Tests.{not-true, not-false}
-use Rattle.utf8.proofs.CodeLaws.{ascii-utf8}
+use Rattle.utf8.proofs.CodeLaws.{plain-utf8}
 use Rattle.utf8.proofs.WindowLaws.{edges-wrong, long-is}
 use Rattle.utf8.proofs.is_utf8.Statement.{statement}
 use Rattle.utf8.proofs.is_utf8.Tie as tie
 
 returns : tie.Need-returns
-returns c = sym (ascii-utf8 (now (c .before .before .before .args .s)) (sym (c .before .plain .ensures) ∙ c .if1 .taken))
+returns c = sym (plain-utf8 (now (c .before .before .before .args .s)) (sym (c .before .is-all-plain .ensures) ∙ c .if1 .taken))
 
 returns-3 : tie.Need-returns-3
 returns-3 c =

@@ -7,8 +7,8 @@ use native.Mathlib.Omega.{arith}
 use borrow.Author.Tests.{not-true, not-false}
 use denote.Ref.{now}
 use lib.ListN.{length}
-use Rattle.utf8.specs.Places.{places}
-use Rattle.utf8.proofs.WindowLaws.{window-wrong, one-more, last-window}
+use Rattle.utf8.specs.Places.{each, places, standsAt}
+use Rattle.utf8.proofs.WindowLaws.{k-more, k-wrong, k-last}
 use Rattle.utf8.proofs.middle.Statement.{statement}
 use Rattle.utf8.proofs.middle.Tie as tie
 
@@ -19,23 +19,26 @@ abbrev μ-loop : tie.MeasureT-loop
 μ-loop s last at₀ at = length s - at
 
 loop-holds : tie.Need-loop-holds Inv-loop μ-loop
-unfolding places
+unfolding each
 loop-holds c = (omega arith, refl)
 
 returns : tie.Need-returns Inv-loop μ-loop
 returns c =
     let l = c .before .before .before in
-    sym (window-wrong (now (l .before .before .args .s)) (l .loop .at) (omega arith) (sym (c .before .window .ensures) ∙ not-true _ (c .if1 .taken)))
+    let s = now (l .before .before .args .s) in
+    sym (k-wrong (standsAt s) 16 (l .loop .at) (length s - 3) (omega arith) (sym (c .before .window .ensures) ∙ not-true _ (c .if1 .taken)))
 
 loop-again : tie.Need-loop-again Inv-loop μ-loop
 loop-again c =
     let l = c .before .before .before in
-    (omega arith, one-more (now (l .before .before .args .s)) (l .loop .at) (l .loop .inv .1) (sym (c .before .window .ensures) ∙ not-false _ (c .if1 .left)))
+    let s = now (l .before .before .args .s) in
+    (omega arith, k-more (standsAt s) 16 (l .loop .at) (l .loop .inv .1) (sym (c .before .window .ensures) ∙ not-false _ (c .if1 .left)))
 
 returns-2 : tie.Need-returns-2 Inv-loop μ-loop
 returns-2 c =
     let l = c .before .before in
-    c .window2 .ensures ∙ last-window (now (l .before .before .args .s)) (l .loop .at) (omega arith) (omega arith) (l .loop .inv .1)
+    let s = now (l .before .before .args .s) in
+    c .window2 .ensures ∙ k-last (standsAt s) 16 (length s - 19) (l .loop .at) (length s - 3) (omega arith) (omega arith) (l .loop .inv .1)
 
 pub middle-spec : {M : Type 1} → statement M
 middle-spec =

@@ -5,7 +5,7 @@ use mathlib.Core.Bool.{not}
 use Prim.Native.Nat.{_-_, _≤_}
 use native.Mathlib.Omega.{arith}
 use denote.Ref.{now}
-use Rattle.utf8.specs.Places.{places}
+use Rattle.utf8.specs.Places.{each, places}
 use Rattle.utf8.proofs.CodeLaws.{none-wrong, next-place}
 use Rattle.utf8.proofs.window.Statement.{statement}
 use Rattle.utf8.proofs.window.Tie as tie
@@ -17,7 +17,7 @@ abbrev μ-loop : tie.MeasureT-loop
 μ-loop s at wrong₀ i₀ wrong i = 16 - i
 
 loop-holds : tie.Need-loop-holds Inv-loop μ-loop
-unfolding places
+unfolding each
 loop-holds c = (omega arith, refl)
 
 loop-again : tie.Need-loop-again Inv-loop μ-loop
