@@ -1,18 +1,17 @@
 -- The turns of the loops, and bytes that are tested together.
 -- Assumes nothing.
-use mathlib.Core.Path.{_≡_, refl, sym, ap, _∙_}
+use mathlib.Core.Path.{_≡_, refl, sym, _∙_}
 use mathlib.Core.Bool.{Bool, true, false, not, _&&_, _||_}
 use mathlib.Core.List.{List, [], _∷_}
-use Prim.Native.Nat.{ℕ, zero, suc, _+_, _-_, _≤_, _<_}
+use Prim.Native.Nat.{ℕ, suc, _+_, _-_, _≤_, _<_}
 use native.Mathlib.Numerals.{add-one}
 use native.Mathlib.Omega.{arith}
-use lib.ListN.{length, getD, take, List·getD-eq-default}
-use lib.Seq.{take-all}
+use lib.ListN.{length, getD, List·getD-eq-default}
 use lib.Dec.{leb, ltb}
 use lib.Bits.{bitOr, or-lt, or-add-and, and-le-l, and-le-r}
 use borrow.Author.Tests.{lt-ltb, le-ltb, leb-true, leb-false, le-leb, lt-leb}
 use Rattle.model.specs.Utf8.{utf8After, utf8}
-use Rattle.model.proofs.Basics.{split, and-left, and-right}
+use Rattle.model.proofs.Basics.{split}
 use Rattle.model.proofs.Utf8Chars.{alternative}
 use Rattle.utf8.specs.Places.{stands, each, standsAt, places, padded, plainAt, plain}
 use Rattle.utf8.proofs.WindowLaws.{each-at}

@@ -169,23 +169,23 @@ fn is_plain(s: &[u8], at: usize, n: usize) -> bool
     any < 0x80
 }
 
-// Whether every byte of 16 and more is ASCII. The last 16 are looked at together.
-fn is_long_plain(s: &[u8]) -> bool
-    requires { ⌜ 16 ≤ length (now s) ⌝ }
+// Whether every byte is ASCII, k at a time. The last k are looked at together, some of them once more.
+fn is_plain_by(s: &[u8], k: usize) -> bool
+    requires { ⌜ (0 < k) × (k ≤ length (now s)) ⌝ }
     ensures { λ r. ⌜ r ≡ plain (length (now (s .entry))) (now (s .entry)) 0 ⌝ }
 {
-    let last = s.len() - WINDOW;
+    let last = s.len() - k;
     let mut at: usize = 0;
     while at < last {
-        if !is_plain(s, at, WINDOW) {
+        if !is_plain(s, at, k) {
             return false;
         }
-        at += WINDOW;
+        at += k;
     }
-    is_plain(s, last, WINDOW)
+    is_plain(s, last, k)
 }
 
-// Whether every byte is ASCII: 16 at a time, or eight.
+// Whether every byte is ASCII, many at a time.
 fn is_all_plain(s: &[u8]) -> bool
     ensures { λ r. ⌜ r ≡ plain (length (now (s .entry))) (now (s .entry)) 0 ⌝ }
 {
@@ -193,13 +193,13 @@ fn is_all_plain(s: &[u8]) -> bool
     if n < 8 {
         return is_plain(s, 0, n);
     }
-    if WINDOW <= n {
-        return is_long_plain(s);
+    if n < 16 {
+        return is_plain_by(s, 8);
     }
-    if !is_plain(s, 0, 8) {
-        return false;
+    if n < 64 {
+        return is_plain_by(s, 16);
     }
-    is_plain(s, n - 8, 8)
+    is_plain_by(s, 64)
 }
 
 // Whether a stretch is well-formed UTF-8.
