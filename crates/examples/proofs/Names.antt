@@ -1,12 +1,13 @@
 -- Request A1 of document 02: names at each edge of RFC 3629's grammar, and what Register, a table and the reader make of a name.
 -- Assumes nothing.
 use mathlib.Core.Path.{_≡_, refl}
+use mathlib.Core.Bool.{true, false}
 use mathlib.Core.List.{List, [], _∷_}
 use mathlib.Core.Option.{none, some}
 use Prim.Native.Nat.{ℕ}
 use lib.ListN.{replicate}
 use Rattle.model.specs.Lists.{select}
-use Rattle.model.specs.Utf8.{utf8, octets, spelt}
+use Rattle.model.specs.Utf8.{within, tail, utf8, octets, spelt}
 use Rattle.model.specs.Tlv.{Tlv, tlv, bytes}
 use Rattle.model.specs.Commands.{Result, refused, gave}
 use Rattle.model.specs.Reader.{readResponse}
@@ -42,6 +43,17 @@ illFormed =
 pub edges : (select utf8 wellFormed ≡ wellFormed) × (select utf8 illFormed ≡ [])
 unfolding computing
 edges = (refl, refl)
+
+-- ---- what the laws ask is needed: C3 A9 is a letter, and neither of its bytes is one. So a front is well formed only if what follows is (utf8-front),
+-- and what follows only if the front is (joined); and of 80 41, which is not well formed, the part before 41 is not either, though no tail follows (cut)
+
+pub apart : (utf8 (0xC3 ∷ 0xA9 ∷ []) ≡ true) × (utf8 (0xC3 ∷ []) ≡ false) × (utf8 (0xA9 ∷ []) ≡ false)
+unfolding computing
+apart = (refl, refl, refl)
+
+pub cut-of-none : (utf8 (0x80 ∷ 0x41 ∷ []) ≡ false) × (utf8 (0x80 ∷ []) ≡ false) × (within tail 0x41 ≡ false)
+unfolding computing
+cut-of-none = (refl, refl, refl)
 
 -- ---- section 7: its examples, and the characters that it says they are
 

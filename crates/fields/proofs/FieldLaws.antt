@@ -1,12 +1,12 @@
 -- What a field's size says of a value.
 -- Assumes nothing.
-use mathlib.Core.Path.{_≡_, refl}
-use mathlib.Core.Bool.{Bool, true, false, _&&_}
+use mathlib.Core.Path.{_≡_, refl, sym, ap, _∙_}
+use mathlib.Core.Bool.{Bool, true, false, not, _&&_, and-true}
 use mathlib.Core.List.{List}
-use Prim.Native.Nat.{ℕ, _≤_, _<_}
+use Prim.Native.Nat.{ℕ}
 use lib.ListN.{length}
 use lib.Dec.{leb}
-use borrow.Author.Tests.{le-leb, lt-leb}
+use borrow.Author.Tests.{not-true, not-false}
 use Rattle.model.specs.Tlv as model
 use Rattle.model.specs.Tlv.{ruleOf, fits}
 use Rattle.fields.specs.Fields.{named, SizeIs}
@@ -25,26 +25,19 @@ any-bytes ContentHash v = refl
 any-bytes Signature v = refl
 any-bytes Certificate v = refl
 
-and-true : (b : Bool) → (b && true) ≡ b
-and-true true = refl
-and-true false = refl
-
--- a value whose length is right obeys the rule if the rest of it does
-module _ (f : model.Field) (v : List ℕ) {least : ℕ} (l : least ≡ ruleOf f .least) where
-  pub fits-short : length v < least → fits f v ≡ false
+-- a value obeys the rule if its length is allowed, and the rest of it is
+module _ (f : model.Field) (v : List ℕ) {least most : ℕ} {b : Bool} (l : least ≡ ruleOf f .least) (m : most ≡ ruleOf f .most)
+    (e : b ≡ (leb least (length v) && leb (length v) most)) where
+  fits-allows : fits f v ≡ (b && ruleOf f .allowed v)
   unfolding fits
-  fits-short h = simp (lt-leb _ _ (rw l at h))
+  fits-allows = rw (e, l, m)
 
-  module _ {most : ℕ} (m : most ≡ ruleOf f .most) (h : least ≤ length v) where
-    pub fits-long : most < length v → fits f v ≡ false
-    unfolding fits
-    fits-long k = simp (le-leb _ _ (rw l at h), lt-leb _ _ (rw m at k))
+  pub fits-not : not b ≡ true → fits f v ≡ false
+  fits-not h = fits-allows ∙ ap (λ c. c && ruleOf f .allowed v) (not-true b h)
 
-    pub fits-else : length v ≤ most → fits f v ≡ ruleOf f .allowed v
-    unfolding fits
-    fits-else k = simp (le-leb _ _ (rw l at h), le-leb _ _ (rw m at k))
+  pub fits-rest : not b ≡ false → fits f v ≡ ruleOf f .allowed v
+  fits-rest h = fits-allows ∙ ap (λ c. c && ruleOf f .allowed v) (not-false b h)
 
 -- of these fields nothing else is asked
-pub fits-sized : (f : Field) (v : List ℕ) (r : Size) → SizeIs f r → r .least ≤ length v → fits (named f) v ≡ leb (length v) (r .most)
-unfolding fits
-fits-sized f v r i h = rw (le-leb _ _ (rw (i .least-is) at h), any-bytes f v, i .most-is) (and-true (leb (length v) (ruleOf (named f) .most)))
+pub fits-sized : (f : Field) (v : List ℕ) (r : Size) {b : Bool} → SizeIs f r → b ≡ (leb (r .least) (length v) && leb (length v) (r .most)) → b ≡ fits (named f) v
+fits-sized f v r {b} i e = sym (fits-allows (named f) v (i .least-is) (i .most-is) e ∙ rw (any-bytes f v) (and-true b))

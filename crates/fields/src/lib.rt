@@ -5,6 +5,7 @@ pub mod sizes;
 pub mod tags;
 
 use crate::sizes::Size;
+use crate::sizes::allows;
 use utf8::is_utf8;
 ghost use mathlib.Core.Path.{_≡_};
 ghost use Rattle.model.specs.Tlv.{fits, username};
@@ -50,22 +51,14 @@ fn size_of(f: Field) -> Size
 pub fn fits(f: Field, v: &[u8]) -> bool
     ensures { λ r. ⌜ r ≡ fits (named f) (now (v .entry)) ⌝ }
 {
-    let size = size_of(f);
-    if v.len() < size.least {
-        return false;
-    }
-    v.len() <= size.most
+    allows(size_of(f), v.len())
 }
 
 // Whether a value is a username.
 pub fn is_username(v: &[u8]) -> bool
     ensures { λ r. ⌜ r ≡ fits username (now (v .entry)) ⌝ }
 {
-    let size = sizes::USERNAME;
-    if v.len() < size.least {
-        return false;
-    }
-    if size.most < v.len() {
+    if !allows(sizes::USERNAME, v.len()) {
         return false;
     }
     is_utf8(v)

@@ -4,11 +4,11 @@ use mathlib.Core.Path.{_≡_, refl, sym, _∙_}
 use mathlib.Core.Bool.{Bool, true, false, not, _&&_, _||_}
 use mathlib.Core.List.{List, [], _∷_, _++_, map}
 use mathlib.Core.Option.{some}
-use Prim.Native.Nat.{ℕ, zero, suc, _≤_}
+use Prim.Native.Nat.{ℕ, zero, suc, _≤_, _<_}
 use native.Mathlib.Omega.{arith}
 use lib.ListN.{length}
-use lib.Dec.{eqb}
-use borrow.Author.Tests.{eqb-true, eq-eqb}
+use lib.Dec.{leb, eqb}
+use borrow.Author.Tests.{leb-true, leb-false, eqb-true, eqb-false, eq-eqb}
 use Rattle.model.specs.Lists.{all, select, first, eqBytes}
 use Rattle.model.specs.Commands.{Check, judge}
 
@@ -51,6 +51,24 @@ either false b e f g = g e
 pub not-not : (b : Bool) → not b ≡ false → b ≡ true
 not-not true e = refl
 not-not false e = sym e
+
+-- ---- numbers
+
+-- a test of each number below a bound
+abbrev pub allBelow : ℕ → (ℕ → Bool) → Bool
+allBelow zero p = true
+allBelow (suc n) p = p n && allBelow n p
+
+pub below : (n : ℕ) (p : ℕ → Bool) → allBelow n p ≡ true → (j : ℕ) → j < n → p j ≡ true
+below zero p e j h = absurd (omega arith)
+below (suc n) p e j h =
+    split (eqb j n)
+    (λ f. rw (eqb-true j n f) (and-left (p n) _ e))
+    (λ f. below n p (and-right (p n) _ e) j (omega (arith, eqb-false j n f)))
+
+-- a number goes up to another, or past it
+pub up-to : {G : Type 0} (v n : ℕ) → (v ≤ n → G) → (n < v → G) → G
+up-to v n f g = split (leb v n) (λ h. f (leb-true v n h)) (λ h. g (leb-false v n h))
 
 -- ---- byte strings
 

@@ -12,7 +12,7 @@ use lib.Dec.{leb, ltb}
 use borrow.Author.Tests.{leb-true, leb-false, ltb-true, le-leb, lt-leb, not-true}
 use Rattle.model.specs.Lists.{all, select, first}
 use Rattle.model.specs.Utf8.{Range, _to_, within, tail, utf8Char, begins, follow, scalar, octets}
-use Rattle.model.proofs.Basics.{split, impossible, and-left, and-right, both}
+use Rattle.model.proofs.Basics.{split, impossible, and-left, and-right, both, up-to}
 
 -- ---- the table of alternatives
 
@@ -49,6 +49,22 @@ by-table P ((r ∷ rs) ∷ ls) k a =
 pub by-alternative : (P : ℕ → List Range → Type 0) → Each P utf8Char → (a : ℕ) → If (P a) (follow a)
 unfolding follow
 by-alternative P k a = by-table P utf8Char k a
+
+-- and what a test of the two says of each, if it passes at all of them
+abbrev tested : (Range → List Range → Bool) → List Range → Bool
+tested t [] = true
+tested t (r ∷ rs) = t r rs
+
+each-tested : (t : Range → List Range → Bool) (P : ℕ → List Range → Type 0)
+    → ((r : Range) (rs : List Range) → t r rs ≡ true → (a : ℕ) → r .low ≤ a → a ≤ r .high → P a rs)
+    → (ls : List (List Range)) → all (tested t) ls ≡ true → Each P ls
+each-tested t P f [] e = tt
+each-tested t P f ([] ∷ ls) e = each-tested t P f ls e
+each-tested t P f ((r ∷ rs) ∷ ls) e = (f r rs (and-left (t r rs) _ e), each-tested t P f ls (and-right (t r rs) _ e))
+
+pub by-test : (t : Range → List Range → Bool) (P : ℕ → List Range → Type 0) → all (tested t) utf8Char ≡ true
+    → ((r : Range) (rs : List Range) → t r rs ≡ true → (a : ℕ) → r .low ≤ a → a ≤ r .high → P a rs) → (a : ℕ) → If (P a) (follow a)
+by-test t P e f = by-alternative P (each-tested t P f utf8Char e)
 
 -- the alternatives go up by their first bytes
 abbrev past : ℕ → List Range → Bool
@@ -208,7 +224,7 @@ unfolding scalar
 char v e =
     let top : v ≤ 0x10FFFF = leb-true _ _ (and-left (leb v 0x10FFFF) _ e) in
     let out : (leb 0xD800 v && leb v 0xDFFF) ≡ false = not-true _ (and-right (leb v 0x10FFFF) _ e) in
-    up-to 0x7F (λ h. record {
+    up-to v 0x7F (λ h. record {
       lead = v;
       rest = [];
       ranges = [];
@@ -217,18 +233,15 @@ char v e =
       fits = tt;
       value = bits-one v h;
     }) (λ l1.
-    up-to 0x7FF (λ h. two v 1 refl l1 h (omega arith) (omega arith)) (λ l2.
-    up-to 0xFFF (λ h. three v 2 refl l2 (omega arith) (omega arith) (omega arith) (omega arith) (omega arith)) (λ l3.
-    up-to 0xCFFF (λ h. three v 3 refl l2 (omega arith) (omega arith) (omega arith) (omega arith) (omega arith)) (λ l4.
-    up-to 0xD7FF (λ h. three v 4 refl l2 (omega arith) (omega arith) (omega arith) (omega arith) (omega arith)) (λ l5.
+    up-to v 0x7FF (λ h. two v 1 refl l1 h (omega arith) (omega arith)) (λ l2.
+    up-to v 0xFFF (λ h. three v 2 refl l2 (omega arith) (omega arith) (omega arith) (omega arith) (omega arith)) (λ l3.
+    up-to v 0xCFFF (λ h. three v 3 refl l2 (omega arith) (omega arith) (omega arith) (omega arith) (omega arith)) (λ l4.
+    up-to v 0xD7FF (λ h. three v 4 refl l2 (omega arith) (omega arith) (omega arith) (omega arith) (omega arith)) (λ l5.
     let l6 : 0xDFFF < v = leb-false _ _ (rw (le-leb 0xD800 v l5) at out) in
-    up-to 0xFFFF (λ h. three v 5 refl l2 h (omega arith) (omega arith) (omega arith) (omega arith)) (λ l7.
-    up-to 0x3FFFF (λ h. four v 6 refl l7 top (omega arith) (omega arith) (omega arith) (omega arith)) (λ l8.
-    up-to 0xFFFFF (λ h. four v 7 refl l7 top (omega arith) (omega arith) (omega arith) (omega arith)) (λ l9.
+    up-to v 0xFFFF (λ h. three v 5 refl l2 h (omega arith) (omega arith) (omega arith) (omega arith)) (λ l7.
+    up-to v 0x3FFFF (λ h. four v 6 refl l7 top (omega arith) (omega arith) (omega arith) (omega arith)) (λ l8.
+    up-to v 0xFFFFF (λ h. four v 7 refl l7 top (omega arith) (omega arith) (omega arith) (omega arith)) (λ l9.
     four v 8 refl l7 top (omega arith) (omega arith) (omega arith) (omega arith)))))))))
-  where
-    up-to : {G : Type 0} (n : ℕ) → (v ≤ n → G) → (n < v → G) → G
-    up-to n f g = split (leb v n) (λ h. f (leb-true _ _ h)) (λ h. g (leb-false _ _ h))
 
 -- ---- an alternative
 

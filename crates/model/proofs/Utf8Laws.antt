@@ -2,19 +2,21 @@
 -- inside a character is not; and stretches one after the other.
 -- Assumes nothing.
 use mathlib.Core.Path.{_≡_, refl, sym, ap, _∙_}
-use mathlib.Core.Bool.{true, false, not}
+use mathlib.Core.Bool.{Bool, true, false, not, _&&_, _||_}
 use mathlib.Core.List.{List, [], _∷_, _++_, append-assoc, append-nil}
 use mathlib.Core.Option.{Option, none, some}
 use Prim.Native.Nat.{ℕ, zero, suc, _+_, _-_, _*_, _≤_, _<_}
 use native.Mathlib.Omega.{arith}
-use lib.ListN.{length, take, getD, length-append}
+use lib.ListN.{length, take, getD}
+use lib.Dec.{leb, ltb}
+use borrow.Author.Tests.{leb-true, ltb-true}
 use lib.Seq.{take-append-seam, getD-append-seam}
 use Rattle.model.specs.Lists.{all}
 use Rattle.model.specs.Utf8.{Range, within, tail, follow, utf8After, utf8, scalar, octets, spelt}
 use Rattle.model.specs.Tlv.{fits, username}
-use Rattle.model.proofs.Basics.{split, impossible, clash, and-left, and-right, both}
+use Rattle.model.proofs.Basics.{split, impossible, clash, and-left, and-right, both, either}
 use Rattle.model.proofs.LayoutLaws.{fits-allowed}
-use Rattle.model.proofs.Utf8Chars.{in-range, range-low, range-high, If, by-alternative, Fit, bits, char, Completes, completes}
+use Rattle.model.proofs.Utf8Chars.{in-range, range-low, range-high, If, by-test, Fit, bits, char, Completes, completes}
 
 -- ---- scalar values are well formed
 
@@ -130,51 +132,31 @@ spelt-once (v ∷ vs) (w ∷ ws) e f g =
 -- ---- cut
 
 -- no byte that follows a first byte is anything but a tail, and no first byte is one
-abbrev Tails : List Range → Type 0
-Tails [] = Unit {0}
-Tails (r ∷ rs) = (0x80 ≤ r .low) × (r .high ≤ 0xBF) × Tails rs
-
-no-tail : (b : ℕ) → ((0x80 ≤ b) × (b ≤ 0xBF) → ⊥) → within tail b ≡ false
-no-tail b f = split (within tail b) (λ e. absurd (f (range-low tail b e, range-high tail b e))) (λ e. e)
+abbrev inTail : Range → Bool
+inTail r = leb 0x80 (r .low) && leb (r .high) 0xBF
 
 abbrev Leads : ℕ → List Range → Type 0
-Leads a rs = Tails rs × (within tail a ≡ false)
-
-first-one : (a : ℕ) → a ≤ 0x7F → within tail a ≡ false
-first-one a h = no-tail a (λ t. omega (arith, t .0))
-
-first-more : (a : ℕ) → 0xC0 ≤ a → within tail a ≡ false
-first-more a l = no-tail a (λ t. omega (arith, t .1))
+Leads a rs = (all inTail rs ≡ true) × (within tail a ≡ false)
 
 leads : (a : ℕ) → If (Leads a) (follow a)
 leads =
-    by-alternative Leads (
-      λ a l h. (tt, first-one a h),
-      (
-        λ a l h. (omega arith, first-more a (omega arith)),
-        (
-          λ a l h. (omega arith, first-more a (omega arith)),
-          (
-            λ a l h. (omega arith, first-more a (omega arith)),
-            (
-              λ a l h. (omega arith, first-more a (omega arith)),
-              (
-                λ a l h. (omega arith, first-more a (omega arith)),
-                (
-                  λ a l h. (omega arith, first-more a (omega arith)),
-                  (
-                    λ a l h. (omega arith, first-more a (omega arith)),
-                    (λ a l h. (omega arith, first-more a (omega arith)), tt),
-                  ),
-                ),
-              ),
-            ),
-          ),
-        ),
-      ),
-    )
+    by-test (λ r rs. all inTail rs && (ltb (r .high) 0x80 || ltb 0xBF (r .low))) Leads refl
+    (λ r rs e a l h. (
+      and-left (all inTail rs) _ e,
+      either (ltb (r .high) 0x80) _ (and-right (all inTail rs) _ e)
+          (λ f. apart a (λ t. omega (arith, t .0, ltb-true (r .high) 0x80 f)))
+          (λ f. apart a (λ t. omega (arith, t .1, ltb-true 0xBF (r .low) f))),
+    ))
+  where
+    apart : (a : ℕ) → ((0x80 ≤ a) × (a ≤ 0xBF) → ⊥) → within tail a ≡ false
+    apart a f = split (within tail a) (λ e. absurd (f (range-low tail a e, range-high tail a e))) (λ e. e)
 
-leads-tails : (a : ℕ) (o : Option (List Range)) → If (Leads a) o → If Tails o
+in-tail : (r : Range) (b : ℕ) → inTail r ≡ true → r .low ≤ b → b ≤ r .high → within tail b ≡ true
+in-tail r b e l h =
+    in-range tail b (omega (arith, leb-true 0x80 (r .low) (and-left (leb 0x80 (r .low)) _ e)))
+    (omega (arith, leb-true (r .high) 0xBF (and-right (leb 0x80 (r .low)) _ e)))
+
+leads-tails : (a : ℕ) (o : Option (List Range)) → If (Leads a) o → If (λ rs. all inTail rs ≡ true) o
 leads-tails a none k = tt
 leads-tails a (some rs) k = k .0
 
@@ -184,22 +166,23 @@ leads-first a none [] k e = clash e refl
 leads-first a none (b ∷ s) k e = clash e refl
 leads-first a (some rs) s k e = k .1
 
-cut-after : (s : List ℕ) (o : Option (List Range)) (n : ℕ) → If Tails o → utf8After o s ≡ true → n < length s
+cut-after : (s : List ℕ) (o : Option (List Range)) (n : ℕ) → If (λ rs. all inTail rs ≡ true) o → utf8After o s ≡ true
     → utf8After o (take n s) ≡ not (within tail (getD s n 0))
 unfolding utf8After
-cut-after [] o n k e h = absurd (omega arith)
-cut-after (b ∷ s) none n k e h = clash e refl
-cut-after (a ∷ s) (some []) zero k e h = rw (leads-first a (follow a) s (leads a) e)
-cut-after (a ∷ s) (some []) (suc n) k e h = cut-after s (follow a) n (leads-tails a (follow a) (leads a)) e (omega arith)
-cut-after (b ∷ s) (some (r ∷ rs)) zero k e h =
+cut-after [] o zero k e = e
+cut-after [] o (suc n) k e = e
+cut-after (b ∷ s) none n k e = clash e refl
+cut-after (a ∷ s) (some []) zero k e = rw (leads-first a (follow a) s (leads a) e)
+cut-after (a ∷ s) (some []) (suc n) k e = cut-after s (follow a) n (leads-tails a (follow a) (leads a)) e
+cut-after (b ∷ s) (some (r ∷ rs)) zero k e =
     let w : within r b ≡ true = and-left (within r b) _ e in
-    rw (in-range tail b (omega (arith, range-low r b w)) (omega (arith, range-high r b w)))
-cut-after (b ∷ s) (some (r ∷ rs)) (suc n) k e h =
-    rw (and-left (within r b) _ e) (cut-after s (some rs) n (k .2) (and-right (within r b) _ e) (omega arith))
+    rw (in-tail r b (and-left (inTail r) _ k) (range-low r b w) (range-high r b w))
+cut-after (b ∷ s) (some (r ∷ rs)) (suc n) k e =
+    rw (and-left (within r b) _ e) (cut-after s (some rs) n (and-right (inTail r) _ k) (and-right (within r b) _ e))
 
--- cut at a place it is well formed exactly where no tail stands there, that is, where a character ends
-pub cut : (s : List ℕ) (n : ℕ) → utf8 s ≡ true → n < length s → utf8 (take n s) ≡ not (within tail (getD s n 0))
-cut s n e h = cut-after s (some []) n tt e h
+-- cut at a place it is well formed exactly where no tail stands there, that is, where a character ends; past its end nothing is cut
+pub cut : (s : List ℕ) (n : ℕ) → utf8 s ≡ true → utf8 (take n s) ≡ not (within tail (getD s n 0))
+cut s n e = cut-after s (some []) n refl e
 
 -- ---- one after the other
 
@@ -213,23 +196,22 @@ pub utf8-front : (s t : List ℕ) → utf8 (s ++ t) ≡ true → utf8 t ≡ true
 unfolding utf8After
 utf8-front s [] e f = rw (append-nil s) at e
 utf8-front s (b ∷ t) e f =
-    let c = cut (s ++ b ∷ t) (length s) e (rw length-append (omega arith)) in
-    sym (ap utf8 (take-append-seam s (b ∷ t))) ∙ c ∙ rw (getD-append-seam s b t 0, leads-first b (follow b) t (leads b) f)
+    sym (ap utf8 (take-append-seam s (b ∷ t))) ∙ cut (s ++ b ∷ t) (length s) e ∙ rw (getD-append-seam s b t 0, leads-first b (follow b) t (leads b) f)
 
 -- ---- the cut of which the buyer complains
 
-fit-tail : (rs : List Range) (bs : List ℕ) (k : ℕ) → Tails rs → Fit rs bs → k < length bs → within tail (getD bs k 0) ≡ true
+fit-tail : (rs : List Range) (bs : List ℕ) (k : ℕ) → all inTail rs ≡ true → Fit rs bs → k < length bs → within tail (getD bs k 0) ≡ true
 fit-tail [] [] k t f h = absurd (omega arith)
 fit-tail [] (b ∷ bs) k t f h = absurd f
 fit-tail (r ∷ rs) [] k t f h = absurd f
-fit-tail (r ∷ rs) (b ∷ bs) zero t f h = in-range tail b (omega arith) (omega arith)
-fit-tail (r ∷ rs) (b ∷ bs) (suc k) t f h = fit-tail rs bs k (t .2) (f .2) (omega arith)
+fit-tail (r ∷ rs) (b ∷ bs) zero t f h = in-tail r b (and-left (inTail r) _ t) (f .0) (f .1)
+fit-tail (r ∷ rs) (b ∷ bs) (suc k) t f h = fit-tail rs bs k (and-right (inTail r) _ t) (f .2) (omega arith)
 
 char-tail : (v k : ℕ) → scalar v ≡ true → 0 < k → k < length (octets v) → within tail (getD (octets v) k 0) ≡ true
 char-tail v zero e p h = absurd (omega arith)
 char-tail v (suc k) e p h =
     let c = char v e in
-    let t : If Tails (some (c .ranges)) = rw (c .line) at (leads-tails (c .lead) (follow (c .lead)) (leads (c .lead))) in
+    let t : all inTail (c .ranges) ≡ true = rw (c .line) at (leads-tails (c .lead) (follow (c .lead)) (leads (c .lead))) in
     let n : suc k < suc (length (c .rest)) = rw (c .is) at h in
     rw (c .is) (fit-tail (c .ranges) (c .rest) k t (c .fits) (omega arith))
 
@@ -240,12 +222,12 @@ char-utf8 v e = ap utf8 (sym (append-nil (octets v))) ∙ after-char v [] e
 -- well formed, then a part of one more character
 pub cut-inside : (s : List ℕ) (v k : ℕ) → utf8 s ≡ true → scalar v ≡ true → 0 < k → k < length (octets v)
     → utf8 (s ++ take k (octets v)) ≡ false
-cut-inside s v k e f p h = joined s (take k (octets v)) e ∙ cut (octets v) k (char-utf8 v f) h ∙ rw (char-tail v k f p h)
+cut-inside s v k e f p h = joined s (take k (octets v)) e ∙ cut (octets v) k (char-utf8 v f) ∙ rw (char-tail v k f p h)
 
 -- a username that is cut before a tail is none
-pub name-cut : (v : List ℕ) (n : ℕ) → fits username v ≡ true → n < length v → within tail (getD v n 0) ≡ true → fits username (take n v) ≡ false
-name-cut v n e h t =
-    not-fits (take n v) (cut v n (fits-allowed username v e) h ∙ rw t)
+pub name-cut : (v : List ℕ) (n : ℕ) → fits username v ≡ true → within tail (getD v n 0) ≡ true → fits username (take n v) ≡ false
+name-cut v n e t =
+    not-fits (take n v) (cut v n (fits-allowed username v e) ∙ rw t)
   where
     not-fits : (w : List ℕ) → utf8 w ≡ false → fits username w ≡ false
     not-fits w u = split (fits username w) (λ g. clash (fits-allowed username w g) u) (λ g. g)

@@ -185,6 +185,7 @@ abbrev pub ruleOf : Field → Rule
 ruleOf index = exactly 0x280D (0 ∷ [])
 ruleOf appId = sized 0x2804 1 512
 ruleOf challengeHash = sized 0x2E0A 1 32
+-- A1: "A username must now be well-formed UTF-8 by RFC 3629, still 1 to 128 bytes"
 ruleOf username = rule 0x2806 1 128 utf8
 ruleOf attestationType = sized 0x2807 2 2
 ruleOf accessToken = sized 0x2805 1 32

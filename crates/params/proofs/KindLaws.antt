@@ -14,7 +14,7 @@ use borrow.Author.Tests.{le-leb, lt-leb, leb-true, ltb-true, ltb-false, eqb-true
 use Rattle.model.specs.Lists.{all, first, select, eqBytes}
 use Rattle.model.specs.Tlv as model
 use Rattle.model.specs.Tlv.{Tlv, critical, Field, keyHandle, Listed, getInfo, register, sign, deregister, openSettings, commandTag, kinds, kindOf, fieldsOf, ruleOf, tagOf, fits, listed, childOk, skippable}
-use Rattle.model.proofs.Basics.{split, clash, and-left, and-right, NoneOf, impossible}
+use Rattle.model.proofs.Basics.{split, clash, and-left, and-right, allBelow, below, NoneOf, impossible}
 use Rattle.tlv.specs.Numbers.{numAt}
 use Rattle.params.specs.Slots.{commandFields, slots, slotField, placeOf, slotOf, mostFor, bySlot}
 use Rattle.params.specs.Children.{childPasses, childTaken}
@@ -101,17 +101,6 @@ unfolding slotOf
 slot-tag tag h = place-tag tag commandFields keyHandle h
 
 -- ---- the slots, one by one
-
--- a test of each number below a bound
-abbrev allBelow : ℕ → (ℕ → Bool) → Bool
-allBelow zero p = true
-allBelow (suc n) p = p n && allBelow n p
-
-below : (n : ℕ) (p : ℕ → Bool) → allBelow n p ≡ true → (j : ℕ) → j < n → p j ≡ true
-below zero p e j h = absurd (omega arith)
-below (suc n) p e j h =
-    split (eqb j n) (λ d. rw (eqb-true j n d) (and-left _ _ e))
-    (λ d. let k = eqb-false j n d in below n p (and-right (p n) _ e) j (omega arith))
 
 -- of each command and each slot
 pub at-kind : (p : model.Kind → ℕ → Bool) → all (λ k. allBelow slots (p k)) kinds ≡ true → (k : model.Kind) (j : ℕ) → j < slots → p k j ≡ true

@@ -1,5 +1,6 @@
 use fields::sizes;
 use fields::sizes::Size;
+use fields::sizes::allows;
 use fields::tags;
 use tlv::numbers::get16;
 use utf8::is_utf8;
@@ -144,11 +145,7 @@ fn size_of(slot: usize) -> Size
 pub fn slot_fits(slot: usize, v: &[u8]) -> bool
     ensures { λ r. ⌜ r ≡ fits (slotField slot) (now (v .entry)) ⌝ }
 {
-    let size = size_of(slot);
-    if v.len() < size.least {
-        return false;
-    }
-    if size.most < v.len() {
+    if !allows(size_of(slot), v.len()) {
         return false;
     }
     if slot == INDEX {

@@ -1,7 +1,7 @@
 -- The character at a place of a stretch, by its bytes there.
 -- Assumes nothing.
 use mathlib.Core.Path.{_≡_, refl, sym, _∙_}
-use mathlib.Core.Bool.{Bool, true, false, _&&_}
+use mathlib.Core.Bool.{true, false, _&&_}
 use mathlib.Core.List.{List, [], _∷_}
 use mathlib.Core.Option.{none, some}
 use Prim.Native.Nat.{ℕ, _+_, _≤_, _<_}
@@ -12,10 +12,10 @@ use lib.Seq.{drop-cons}
 use lib.Dec.{leb}
 use borrow.Author.Tests.{leb-true, leb-false, le-leb, lt-leb, not-false}
 use Rattle.model.specs.Utf8.{Range, within, tail, follow, utf8After, utf8}
-use Rattle.model.proofs.Basics.{split, clash, and-left, and-right}
+use Rattle.model.proofs.Basics.{split, clash, and-left, and-right, up-to}
 use Rattle.model.proofs.Utf8Chars.{in-range, alternative}
 use Rattle.utf8.specs.Places.{second, begins, barred, Reached}
-use Rattle.utf8.proofs.PlaceLaws.{common-low, second-tail, more, Leaves, First, no-first, first-of, first, second-barred, second-low, second-within, none-after}
+use Rattle.utf8.proofs.PlaceLaws.{begins-high, common-low, second-tail, more, Leaves, First, no-first, first-of, first, second-barred, second-low, second-within, none-after}
 
 module _ (s : List ℕ) where
   pub tail-past : (p : ℕ) → length s ≤ p → within tail (getD s p 0) ≡ false
@@ -44,22 +44,19 @@ module _ (d : ℕ) where
       from (no-first e f) = clash b e
       from (first-of m h e f l) = rw (← k m h l) f
 
-  begins-up : 0xC2 ≤ d → d ≤ 0xF4 → begins d ≡ true
-  begins-up l h = rw (lt-leb d 0x7F (omega arith), in-range _ d l h)
-
   follow-two : 0xC2 ≤ d → d < 0xE0 → follow d ≡ some (more 1 d)
   follow-two l h =
-      follow-is 1 (begins-up l (omega arith))
+      follow-is 1 (begins-high d l (omega arith))
       (λ m k v. omega (arith, leb-true 1 m (v .one ∙ le-leb 0xC0 d (omega arith)), leb-false 2 m (v .two ∙ lt-leb 0xE0 d h)))
 
   follow-three : 0xE0 ≤ d → d < 0xF0 → follow d ≡ some (more 2 d)
   follow-three l h =
-      follow-is 2 (begins-up (omega arith) (omega arith))
+      follow-is 2 (begins-high d (omega arith) (omega arith))
       (λ m k v. omega (arith, leb-true 2 m (v .two ∙ le-leb 0xE0 d l), leb-false 3 m (v .three ∙ lt-leb 0xF0 d h)))
 
   follow-four : 0xF0 ≤ d → d ≤ 0xF4 → follow d ≡ some (more 3 d)
   follow-four l h =
-      follow-is 3 (begins-up (omega arith) h) (λ m k v. omega (arith, leb-true 3 m (v .three ∙ le-leb 0xF0 d l)))
+      follow-is 3 (begins-high d (omega arith) h) (λ m k v. omega (arith, leb-true 3 m (v .three ∙ le-leb 0xF0 d l)))
 
   follow-none : begins d ≡ false → follow d ≡ none
   follow-none b = from (first d)
@@ -118,41 +115,35 @@ module _ (s : List ℕ) (at : ℕ) (h : at < length s) where
       )
 
   -- where one stands, its bytes are these
-  record Stands : Type 0 where
+  record CharHere : Type 0 where
     pub least : 0xC2 ≤ lead
     pub most : lead ≤ 0xF4
     pub after-first : within (second lead) (byte 1) ≡ true
     pub third : 0xE0 ≤ lead → within tail (byte 2) ≡ true
     pub fourth : 0xF0 ≤ lead → within tail (byte 3) ≡ true
 
-  stands : 0x80 ≤ lead → utf8 (drop at s) ≡ true → Stands
-  stands l e =
-      up-to 0xC1 (λ k. clash e (wrong (rw (lt-leb lead 0x7F l, lt-leb 0xC2 lead (omega arith))))) (λ k1.
-      up-to 0xDF (λ k. let f = rw (two k1 (omega arith)) at e in
+  char-here : 0x80 ≤ lead → utf8 (drop at s) ≡ true → CharHere
+  char-here l e =
+      up-to lead 0xC1 (λ k. clash e (wrong (rw (lt-leb lead 0x7F l, lt-leb 0xC2 lead (omega arith))))) (λ k1.
+      up-to lead 0xDF (λ k. let f = rw (two k1 (omega arith)) at e in
       record { least = k1; most = omega arith; after-first = and-left (within (second lead) (byte 1)) _ f; third = λ u. absurd (omega arith); fourth = λ u. absurd (omega arith) }) (λ k2.
-      up-to 0xEF (λ k. let f = rw (three k2 (omega arith)) at e in
+      up-to lead 0xEF (λ k. let f = rw (three k2 (omega arith)) at e in
       let g = and-right (within (second lead) (byte 1)) _ f in
       record { least = k1; most = omega arith; after-first = and-left (within (second lead) (byte 1)) _ f; third = λ u. and-left (within tail (byte 2)) _ g; fourth = λ u. absurd (omega arith) }) (λ k3.
-      up-to 0xF4 (λ k. let f = rw (four k3 k) at e in
+      up-to lead 0xF4 (λ k. let f = rw (four k3 k) at e in
       let g = and-right (within (second lead) (byte 1)) _ f in
       record { least = k1; most = k; after-first = and-left (within (second lead) (byte 1)) _ f; third = λ u. and-left (within tail (byte 2)) _ g; fourth = λ u. and-left (within tail (byte 3)) _ (and-right (within tail (byte 2)) _ g) }) (λ k4.
       clash e (wrong (rw (lt-leb lead 0x7F l, le-leb 0xC2 lead k1, lt-leb lead 0xF4 k4)))))))
-    where
-      up-to : {G : Type 0} (n : ℕ) → (lead ≤ n → G) → (n < lead → G) → G
-      up-to n f g = split (leb lead n) (λ k. f (leb-true _ _ k)) (λ k. g (leb-false _ _ k))
 
   -- so that what they are not says that none does
-  none-here : 0x80 ≤ lead → (Stands → ⊥) → Reached s at at
+  none-here : 0x80 ≤ lead → (CharHere → ⊥) → Reached s at at
   none-here l f =
       record {
         onward = omega arith;
         inside = omega arith;
         same = refl;
-        stops = λ e. split (utf8 (drop at s)) (λ u. absurd (f (stands l u))) (λ u. u);
+        stops = λ e. split (utf8 (drop at s)) (λ u. absurd (f (char-here l u))) (λ u. u);
       }
-
-  false-true : {b : Bool} → b ≡ true → b ≡ false → ⊥
-  false-true p q = clash p q
 
   module _ (l : 0x80 ≤ lead) where
     pub none-first : lead < 0xC2 → Reached s at at
@@ -162,16 +153,16 @@ module _ (s : List ℕ) (at : ℕ) (h : at < length s) where
     none-past k = none-here l (λ c. omega (arith, c .most))
 
     pub none-second : within tail (byte 1) ≡ false → Reached s at at
-    none-second e = none-here l (λ c. let t = second-within lead (byte 1) (c .after-first) in false-true (in-range tail (byte 1) (t .0) (t .1)) e)
+    none-second e = none-here l (λ c. let t = second-within lead (byte 1) (c .after-first) in clash (in-range tail (byte 1) (t .0) (t .1)) e)
 
     pub none-barred : within tail (byte 1) ≡ true → barred lead (byte 1) ≡ true → Reached s at at
-    none-barred t e = none-here l (λ c. false-true e (second-barred lead (byte 1) t ∙ rw (c .after-first)))
+    none-barred t e = none-here l (λ c. clash e (second-barred lead (byte 1) t ∙ rw (c .after-first)))
 
     pub none-third : 0xE0 ≤ lead → within tail (byte 2) ≡ false → Reached s at at
-    none-third k e = none-here l (λ c. false-true (c .third k) e)
+    none-third k e = none-here l (λ c. clash (c .third k) e)
 
     pub none-fourth : 0xF0 ≤ lead → within tail (byte 3) ≡ false → Reached s at at
-    none-fourth k e = none-here l (λ c. false-true (c .fourth k) e)
+    none-fourth k e = none-here l (λ c. clash (c .fourth k) e)
 
   -- and where they are, it goes on behind them
   reached : (n : ℕ) → 0 < n → at + n ≤ length s → utf8 (drop at s) ≡ utf8 (drop (at + n) s) → Reached s at (at + n)

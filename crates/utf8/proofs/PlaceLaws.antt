@@ -1,41 +1,30 @@
 -- A stretch is well formed where each of its bytes, and three zeros behind them, may stand after the three before it.
 -- Assumes nothing.
 use mathlib.Core.Path.{_≡_, refl, sym, _∙_}
-use mathlib.Core.Bool.{Bool, true, false, not, _&&_, _||_, Bool·beq}
+use mathlib.Core.Bool.{Bool, true, false, not, _&&_, _||_, Bool·beq, or-false}
 use mathlib.Core.List.{List, [], _∷_}
 use mathlib.Core.Option.{Option, none, some}
 use Prim.Native.Nat.{ℕ, zero, suc, _-_, _≤_, _<_}
 use native.Mathlib.Omega.{arith}
 use lib.ListN.{replicate}
 use lib.Dec.{leb, eqb}
-use borrow.Author.Tests.{leb-true, leb-false, le-leb, lt-leb, eqb-true, eqb-false, ne-eqb, le-ltb}
+use borrow.Author.Tests.{leb-true, leb-false, le-leb, lt-leb, eqb-true, ne-eqb, le-ltb}
 use Rattle.model.specs.Utf8.{Range, _to_, within, tail, follow, utf8After, utf8}
-use Rattle.model.proofs.Basics.{split, clash, and-left, and-right, or-left, or-right}
-use Rattle.model.proofs.Utf8Chars.{in-range, range-low, range-high, If, by-alternative, alternative}
+use Rattle.model.proofs.Basics.{split, clash, and-left, and-right, or-left, or-right, either, allBelow, below, up-to}
+use Rattle.model.proofs.Utf8Chars.{in-range, range-low, range-high, If, by-test, alternative}
 use Rattle.utf8.specs.Places.{owed, second, begins, never, barred, stands}
 
 -- ---- the code's test of a byte
 
 -- two tests that agree on every byte, which is computed
-abbrev upTo : ℕ → (ℕ → Bool) → Bool
-upTo zero p = true
-upTo (suc n) p = p n && upTo n p
-
-at-byte : (n : ℕ) (p : ℕ → Bool) → upTo n p ≡ true → (d : ℕ) → d < n → p d ≡ true
-at-byte zero p e d h = absurd (omega arith)
-at-byte (suc n) p e d h =
-    split (eqb d n)
-    (λ f. rw (eqb-true d n f) (and-left (p n) _ e))
-    (λ f. at-byte n p (and-right (p n) _ e) d (omega (arith, eqb-false d n f)))
-
 beq-same : (p q : Bool) → Bool·beq p q ≡ true → p ≡ q
 beq-same true true e = refl
 beq-same true false e = sym e
 beq-same false true e = e
 beq-same false false e = refl
 
-agree : (p q : ℕ → Bool) → upTo 256 (λ d. Bool·beq (p d) (q d)) ≡ true → (d : ℕ) → d < 256 → p d ≡ q d
-agree p q e d h = beq-same (p d) (q d) (at-byte 256 (λ d. Bool·beq (p d) (q d)) e d h)
+agree : (p q : ℕ → Bool) → allBelow 256 (λ d. Bool·beq (p d) (q d)) ≡ true → (d : ℕ) → d < 256 → p d ≡ q d
+agree p q e d h = beq-same (p d) (q d) (below 256 (λ d. Bool·beq (p d) (q d)) e d h)
 
 -- what the code asks where a byte is to come after c, and where none is
 abbrev outside : ℕ → ℕ → Bool
@@ -70,7 +59,7 @@ module _ (c : ℕ) where
         split (eqb c 0xF4) (λ i. rw (eqb-true c 0xF4 i) (at 0xF4 refl)) (λ i.
         rw (e, f, g, i) (at 0 refl)))))
       where
-        at : (x : ℕ) → upTo 256 (λ d. Bool·beq (outside x d) (not (within (second x) d))) ≡ true → outside x d ≡ not (within (second x) d)
+        at : (x : ℕ) → allBelow 256 (λ d. Bool·beq (outside x d) (not (within (second x) d))) ≡ true → outside x d ≡ not (within (second x) d)
         at x e = agree (outside x) (λ d. not (within (second x) d)) e d h
 
     to-begin : c < 0xC0 → amiss c d ≡ not (begins d)
@@ -121,7 +110,7 @@ module _ (d : ℕ) where
   begins-low : d ≤ 0x7F → begins d ≡ true
   begins-low h = rw (le-leb d 0x7F h)
 
-  begins-high : 0xC2 ≤ d → d ≤ 0xF4 → begins d ≡ true
+  pub begins-high : 0xC2 ≤ d → d ≤ 0xF4 → begins d ≡ true
   begins-high l h = rw (lt-leb d 0x7F (omega arith), in-range (0xC2 to 0xF4) d l h)
 
   leaves : (n : ℕ) → leb 1 n ≡ leb 0xC0 d → leb 2 n ≡ leb 0xE0 d → leb 3 n ≡ leb 0xF0 d → Leaves d n
@@ -151,31 +140,11 @@ module _ (d : ℕ) where
 
 begins-follow : (d : ℕ) → If (λ rs. begins d ≡ true) (follow d)
 begins-follow =
-    by-alternative (λ d rs. begins d ≡ true) (
-      λ d l h. begins-low d h,
-      (
-        λ d l h. begins-high d l (omega arith),
-        (
-          λ d l h. begins-high d (omega arith) (omega arith),
-          (
-            λ d l h. begins-high d (omega arith) (omega arith),
-            (
-              λ d l h. begins-high d (omega arith) (omega arith),
-              (
-                λ d l h. begins-high d (omega arith) (omega arith),
-                (
-                  λ d l h. begins-high d (omega arith) (omega arith),
-                  (
-                    λ d l h. begins-high d (omega arith) (omega arith),
-                    (λ d l h. begins-high d (omega arith) h, tt),
-                  ),
-                ),
-              ),
-            ),
-          ),
-        ),
-      ),
-    )
+    by-test (λ r rs. leb (r .high) 0x7F || (leb 0xC2 (r .low) && leb (r .high) 0xF4)) (λ d rs. begins d ≡ true) refl
+    (λ r rs e d l h. either (leb (r .high) 0x7F) _ e
+    (λ f. begins-low d (omega (arith, leb-true (r .high) 0x7F f)))
+    (λ f. begins-high d (omega (arith, leb-true 0xC2 (r .low) (and-left (leb 0xC2 (r .low)) _ f)))
+    (omega (arith, leb-true (r .high) 0xF4 (and-right (leb 0xC2 (r .low)) _ f)))))
 
 follow-none : (d : ℕ) (o : Option (List Range)) → If (λ rs. begins d ≡ true) o → begins d ≡ false → o ≡ none
 follow-none d none k e = refl
@@ -183,25 +152,22 @@ follow-none d (some rs) k e = clash k e
 
 pub first : (d : ℕ) → First d
 first d =
-    up-to 0x7F (λ h. first-of 0 (omega arith) (begins-low d h) (alternative 0 d refl (omega arith) h) (leaves-none d (omega arith))) (λ l1.
-    up-to 0xC1 (λ h. neither (rw (lt-leb d 0x7F l1, lt-leb 0xC2 d (omega arith)))) (λ l2.
-    up-to 0xDF (λ h. first-of 1 (omega arith) (begins-high d l2 (omega arith))
+    up-to d 0x7F (λ h. first-of 0 (omega arith) (begins-low d h) (alternative 0 d refl (omega arith) h) (leaves-none d (omega arith))) (λ l1.
+    up-to d 0xC1 (λ h. neither (rw (lt-leb d 0x7F l1, lt-leb 0xC2 d (omega arith)))) (λ l2.
+    up-to d 0xDF (λ h. first-of 1 (omega arith) (begins-high d l2 (omega arith))
     (rw (second-tail d (common-low d (omega arith))) (alternative 1 d refl l2 h)) (leaves-one d (omega arith) (omega arith))) (λ l3.
-    up-to 0xE0 (λ h. of-two d (second-at d 0xE0 (omega arith)) l3 (omega arith) (alternative 2 d refl l3 h)) (λ l4.
-    up-to 0xEC (λ h. of-two d (others (λ e. omega arith) (λ e. omega arith) (λ e. omega arith) (λ e. omega arith)) (omega arith) (omega arith)
+    up-to d 0xE0 (λ h. of-two d (second-at d 0xE0 (omega arith)) l3 (omega arith) (alternative 2 d refl l3 h)) (λ l4.
+    up-to d 0xEC (λ h. of-two d (others (λ e. omega arith) (λ e. omega arith) (λ e. omega arith) (λ e. omega arith)) (omega arith) (omega arith)
     (alternative 3 d refl l4 h)) (λ l5.
-    up-to 0xED (λ h. of-two d (second-at d 0xED (omega arith)) (omega arith) (omega arith) (alternative 4 d refl l5 h)) (λ l6.
-    up-to 0xEF (λ h. of-two d (others (λ e. omega arith) (λ e. omega arith) (λ e. omega arith) (λ e. omega arith)) (omega arith) (omega arith)
+    up-to d 0xED (λ h. of-two d (second-at d 0xED (omega arith)) (omega arith) (omega arith) (alternative 4 d refl l5 h)) (λ l6.
+    up-to d 0xEF (λ h. of-two d (others (λ e. omega arith) (λ e. omega arith) (λ e. omega arith) (λ e. omega arith)) (omega arith) (omega arith)
     (alternative 5 d refl l6 h)) (λ l7.
-    up-to 0xF0 (λ h. of-three d (second-at d 0xF0 (omega arith)) (omega arith) (omega arith) (alternative 6 d refl l7 h)) (λ l8.
-    up-to 0xF3 (λ h. of-three d (others (λ e. omega arith) (λ e. omega arith) (λ e. omega arith) (λ e. omega arith)) (omega arith) (omega arith)
+    up-to d 0xF0 (λ h. of-three d (second-at d 0xF0 (omega arith)) (omega arith) (omega arith) (alternative 6 d refl l7 h)) (λ l8.
+    up-to d 0xF3 (λ h. of-three d (others (λ e. omega arith) (λ e. omega arith) (λ e. omega arith) (λ e. omega arith)) (omega arith) (omega arith)
     (alternative 7 d refl l8 h)) (λ l9.
-    up-to 0xF4 (λ h. of-three d (second-at d 0xF4 (omega arith)) (omega arith) h (alternative 8 d refl l9 h)) (λ l10.
+    up-to d 0xF4 (λ h. of-three d (second-at d 0xF4 (omega arith)) (omega arith) h (alternative 8 d refl l9 h)) (λ l10.
     neither (rw (lt-leb d 0x7F (omega arith), le-leb 0xC2 d (omega arith), lt-leb d 0xF4 l10))))))))))))
   where
-    up-to : {G : Type 0} (n : ℕ) → (d ≤ n → G) → (n < d → G) → G
-    up-to n f g = split (leb d n) (λ h. f (leb-true _ _ h)) (λ h. g (leb-false _ _ h))
-
     neither : begins d ≡ false → First d
     neither e = no-first e (follow-none d (follow d) (begins-follow d) e)
 
@@ -220,10 +186,6 @@ record Due (a b c n : ℕ) : Type 0 where
   pub one : leb 1 n ≡ owed a b c
   pub two : leb 2 n ≡ owed b c 0
   pub three : leb 3 n ≡ owed c 0 0
-
-or-false : (x : Bool) → (x || false) ≡ x
-or-false true = refl
-or-false false = refl
 
 -- where none is, a first byte says how many; a tail is one of them
 due-first : (a b c d n : ℕ) → Due a b c 0 → Leaves d n → Due b c d n
