@@ -144,29 +144,58 @@ void get_info(struct afternoon *a, struct response *response)
 {
     struct request request;
     start_request(&request, &a->firms[NORTHGATE]); /* anybody's: GetInfo looks at the profile only */
-    command_get_info(&request.command);
+    require_written(write_get_info(&request.command));
     run(a, &request, 0, response);
 }
 
+static void start_register(
+    struct request *request, const struct firm *firm, const struct challenge *challenge, const char *username, uint32_t attestation)
+{
+    struct hash challenge_hash = sha256(text(challenge->letters));
+    start_request(request, firm);
+    request->attestation = attestation;
+    require_written(
+        write_register(&request->command, caller_of(firm), WHOLE(challenge_hash.bytes), text(username), attestation));
+}
+
 void enrol(
-    struct afternoon *a, size_t firm, const char *username, uint16_t attestation, size_t status,
+    struct afternoon *a, size_t firm, const char *username, uint32_t attestation, size_t status,
     struct response *response)
 {
-    struct caller caller = caller_of(&a->firms[firm]);
     struct challenge challenge = new_challenge(a, &a->firms[firm]);
-    struct hash challenge_hash = sha256(text(challenge.letters));
     struct request request;
-    start_request(&request, &a->firms[firm]);
-    request.attestation = attestation;
-    command_register(&request.command, caller, WHOLE(challenge_hash.bytes), text(username), attestation);
+    start_register(&request, &a->firms[firm], &challenge, username, attestation);
     run(a, &request, status, response);
     if (response->signed_length == 0)
         return;
 
     char name[48]; /* a username may be any text, so it is no part of a file's name */
     snprintf(name, sizeof name, "register-%s-%u", a->firms[firm].name, ++a->registrations);
-    archive_add(&a->archive, name, &(struct asked){caller, challenge.letters, ""}, response);
+    archive_add(&a->archive, name, &(struct asked){caller_of(&a->firms[firm]), challenge.letters, ""}, response);
     server_enrol(&a->server, username, text(challenge.letters), response);
+}
+
+/* The name in a Register, and the run of children that it stands in. */
+static struct bytes name_in(const struct command *command, struct bytes *children)
+{
+    struct bytes rest = FILLED(*command), name;
+    uint16_t tag;
+    if (!tlv_next(&rest, &tag, children) || rest.size > 0 || !tlv_find(*children, UAF_TAG_USERNAME, &name))
+        fail_because("command", "no Register");
+    return name;
+}
+
+void enrol_cut(struct afternoon *a, size_t firm, struct response *response)
+{
+    struct challenge challenge = new_challenge(a, &a->firms[firm]);
+    struct request request;
+    struct bytes children;
+    start_register(&request, &a->firms[firm], &challenge, ZOE, UAF_BASIC_SURROGATE);
+    struct bytes name = name_in(&request.command, &children);
+    tlv_cut(request.command.bytes, &request.command.size, children, name);
+    if (!same(name_in(&request.command, &children), text(ZOE_CUT)))
+        fail_because(ZOE, "not cut as it should be");
+    run(a, &request, UAF_STATUS_PARAMS_INVALID, response);
 }
 
 const struct account *sign(struct afternoon *a, struct signing what, size_t status, struct response *response)
@@ -174,25 +203,28 @@ const struct account *sign(struct afternoon *a, struct signing what, size_t stat
     struct caller caller = caller_of(&a->firms[what.firm]);
     struct challenge challenge = new_challenge(a, &a->firms[what.firm]);
     struct hash challenge_hash = sha256(text(challenge.letters));
+    const char *shown = what.content != NULL ? what.content : "";
+    struct bytes content = text(shown);
     struct request request;
     start_request(&request, &a->firms[what.firm]);
     request.display = what.display;
-    request.content_hash = sha256(text(what.content));
-    command_sign(&request.command, caller, WHOLE(challenge_hash.bytes), text(what.content), what.key_handle);
+    request.content_hash = sha256(content);
+    require_written(write_sign(
+        &request.command, caller, WHOLE(challenge_hash.bytes), what.content != NULL ? &content : NULL, what.key_handles));
     run(a, &request, status, response);
     if (response->signed_length == 0)
         return NULL;
 
     char name[48];
     snprintf(name, sizeof name, "sign-%u", ++a->signatures);
-    archive_add(&a->archive, name, &(struct asked){caller, challenge.letters, what.content}, response);
-    return server_book(&a->server, text(challenge.letters), text(what.content), response);
+    archive_add(&a->archive, name, &(struct asked){caller, challenge.letters, shown}, response);
+    return server_book(&a->server, text(challenge.letters), content, response);
 }
 
 void leave(struct afternoon *a, size_t firm, struct bytes key_id, size_t status, struct response *response)
 {
     struct request request;
     start_request(&request, &a->firms[firm]);
-    command_deregister(&request.command, caller_of(&a->firms[firm]), key_id);
+    require_written(write_deregister(&request.command, caller_of(&a->firms[firm]), key_id));
     run(a, &request, status, response);
 }

@@ -49,14 +49,17 @@ void require_same_table(const struct afternoon *a, const struct table *before);
 void get_info(struct afternoon *a, struct response *response);
 
 void enrol(
-    struct afternoon *a, size_t firm, const char *username, uint16_t attestation, size_t status,
+    struct afternoon *a, size_t firm, const char *username, uint32_t attestation, size_t status,
     struct response *response);
+
+/* A Register of Zoe whose name loses its last byte after the command was written, for no writer writes such a name. */
+void enrol_cut(struct afternoon *a, size_t firm, struct response *response);
 
 struct signing {
     size_t firm;
-    struct bytes key_handle; /* of no bytes: none is given */
-    const char *content;     /* "" is none */
-    uint32_t display;        /* what the display says to the content */
+    struct bytes key_handles; /* run together; of no bytes: none is given */
+    const char *content;      /* NULL: none is given */
+    uint32_t display;         /* what the display says to the content */
 };
 
 /* Gives the account that the server books it to, or NULL where nothing was signed. */

@@ -1,4 +1,4 @@
-/* Commands as bytes, their children in the order of the standard's tables. */
+/* Commands as bytes, by the token's own writers. */
 #ifndef DEMO_COMMANDS_H
 #define DEMO_COMMANDS_H
 
@@ -16,16 +16,21 @@ struct caller {
     struct bytes access_token;
 };
 
-void command_get_info(struct command *command);
+/* Each gives 0 or the refusal's number, after which *command is as it was. */
+uint32_t write_get_info(struct command *command);
 
-void command_register(
-    struct command *command, struct caller caller, struct bytes challenge_hash, struct bytes username, uint16_t attestation);
+uint32_t write_register(
+    struct command *command, struct caller caller, struct bytes challenge_hash, struct bytes username, uint32_t attestation);
 
-/* Content or key handle of no bytes: none is given. */
-void command_sign(
-    struct command *command, struct caller caller, struct bytes challenge_hash, struct bytes content, struct bytes key_handle);
+/* Content NULL: none is given, which is not the same as content of no bytes. Key handles run together, each of 32 bytes. */
+uint32_t write_sign(
+    struct command *command, struct caller caller, struct bytes challenge_hash, const struct bytes *content,
+    struct bytes key_handles);
 
 /* A KeyID of no bytes: all records of the caller. */
-void command_deregister(struct command *command, struct caller caller, struct bytes key_id);
+uint32_t write_deregister(struct command *command, struct caller caller, struct bytes key_id);
+
+/* For a command that must be written: a refusal ends the program, which says what it means. */
+void require_written(uint32_t refusal);
 
 #endif

@@ -62,7 +62,7 @@ static void show_holder(const struct firm *firm)
     show(" from its access token and %s\n", firm->app_id);
 }
 
-static void register_seller(struct afternoon *a, size_t firm, const char *username, uint16_t attestation)
+static void register_seller(struct afternoon *a, size_t firm, const char *username, uint32_t attestation)
 {
     struct response response;
     bool full = attestation == UAF_BASIC_FULL;
@@ -92,11 +92,11 @@ static struct bytes handle_in(const struct response *list, const char *username)
 }
 
 /* A Sign that several keys fit gives their names, and moves no counter. */
-static void list_names(struct afternoon *a, struct response *list)
+static void list_names(struct afternoon *a, const char *with, struct bytes key_handles, struct response *list)
 {
     const struct table before = a->terminal.table;
-    show("  > Northgate: Sign, no key handle\n");
-    if (sign(a, (struct signing){NORTHGATE, nothing(), "", UAF_SHOWN_CONFIRMED}, UAF_STATUS_OK, list) != NULL)
+    show("  > Northgate: Sign, %s\n", with);
+    if (sign(a, (struct signing){NORTHGATE, key_handles, NULL, UAF_SHOWN_CONFIRMED}, UAF_STATUS_OK, list) != NULL)
         fail_because("Sign", "signed by one of several");
     show_response(list);
     require_same_table(a, &before);
@@ -106,42 +106,55 @@ static void dead_heat(struct afternoon *a)
 {
     struct response list;
     show("\n3. A dead heat: both of Northgate's keys fit, so neither signs until one is chosen\n");
-    list_names(a, &list);
+    list_names(a, "no key handle", nothing(), &list);
     show("  = two names, no signature; the table is as it was, so no counter moved\n");
 
     show("  > Northgate: Sign with Bo's key handle from the list\n");
-    sign_as(a, (struct signing){NORTHGATE, handle_in(&list, "Bo"), "", UAF_SHOWN_CONFIRMED}, "Bo");
+    sign_as(a, (struct signing){NORTHGATE, handle_in(&list, "Bo"), NULL, UAF_SHOWN_CONFIRMED}, "Bo");
+}
+
+/* What breaks a rule is not written, and so never reaches the token. */
+static void show_unwritten(uint32_t refusal)
+{
+    if (refusal != UAF_REFUSED_FIELD)
+        fail_because("writer", "what breaks a rule is not refused");
+    show("  = the writer refuses it with %u: %s\n", (unsigned)refusal, uaf_refusal_name(refusal));
 }
 
 static void accented_name(struct afternoon *a)
 {
+    const struct hash any = sha256(nothing());
     struct response list, again, response;
+    struct command command;
     show("\n4. A name with an accent: the list prints it, and no name that is cut inside a letter gets into the list\n");
     register_seller(a, NORTHGATE, ZOE, UAF_BASIC_SURROGATE);
-    list_names(a, &list);
+    list_names(a, "no key handle", nothing(), &list);
     if (list.count != 1 + 3 * 2 || !same(field(&list, 5), text(ZOE))) /* after the status, names and key handles */
         fail_because("Sign", "other names than the three");
     show("  = three names; the last is 5a 6f c3 ab, and c3 ab is one letter\n");
 
     const struct table before = a->terminal.table;
     show("  > Northgate: Register the same name from a field of 3 bytes, 5a 6f c3\n");
-    enrol(a, NORTHGATE, ZOE_CUT, UAF_BASIC_SURROGATE, UAF_STATUS_PARAMS_INVALID, &response);
+    show_unwritten(
+        write_register(&command, caller_of(&a->firms[NORTHGATE]), WHOLE(any.bytes), text(ZOE_CUT), UAF_BASIC_SURROGATE));
+    show("  > Northgate: Register the whole name, of which the last byte is lost after it was written\n");
+    enrol_cut(a, NORTHGATE, &response);
     show_response(&response);
     require_same_table(a, &before);
-    list_names(a, &again);
+    list_names(a, "no key handle", nothing(), &again);
     if (!same(FILLED(list), FILLED(again)))
         fail_because("Sign", "another list than before");
     show("  = no record of it; the list is byte for byte as before\n");
 
     show("  > Northgate: Sign with %s's key handle from the list\n", ZOE);
-    sign_as(a, (struct signing){NORTHGATE, handle_in(&again, ZOE), "", UAF_SHOWN_CONFIRMED}, ZOE);
+    sign_as(a, (struct signing){NORTHGATE, handle_in(&again, ZOE), NULL, UAF_SHOWN_CONFIRMED}, ZOE);
 }
 
 static void clear_winner(struct afternoon *a)
 {
     show("\n5. A clear winner: Hollin has one key on this token, and the others are not its own\n");
     show("  > Hollin: Sign, no key handle\n");
-    sign_as(a, (struct signing){HOLLIN, nothing(), "", UAF_SHOWN_CONFIRMED}, "Cy");
+    sign_as(a, (struct signing){HOLLIN, nothing(), NULL, UAF_SHOWN_CONFIRMED}, "Cy");
 }
 
 static void dividends(struct afternoon *a)
@@ -164,15 +177,65 @@ static void dividends(struct afternoon *a)
     show("  = no signature, no counter moved\n");
 }
 
+static void several_handles(struct afternoon *a)
+{
+    struct response list;
+    struct hash bo = key_id_of(a, NORTHGATE, "Bo"), zoe = key_id_of(a, NORTHGATE, ZOE);
+    uint8_t both[2 * UAF_KEY_ID_SIZE];
+    copy(both, WHOLE(bo.bytes));
+    copy(both + UAF_KEY_ID_SIZE, WHOLE(zoe.bytes));
+    show("\n7. What a command has room for: several key handles, content of no bytes, and 8,192 bytes in all\n");
+    list_names(a, "Bo's key handle and " ZOE "'s", WHOLE(both), &list);
+    if (list.count != 1 + 2 * 2) /* the status, names and key handles */
+        fail_because("Sign", "other names than the two");
+    show("  = these two, and not Ann\n");
+}
+
+static void empty_content(struct afternoon *a)
+{
+    show("  > Hollin: Sign with content of no bytes\n");
+    sign_as(a, (struct signing){HOLLIN, nothing(), "", UAF_SHOWN_CONFIRMED}, "Cy");
+    show("  = it counts as none: the hash that is signed is empty\n");
+}
+
+/* A list of dividends that leaves no room in the command, and is too long for the display; then one byte more. */
+static void longest_command(struct afternoon *a)
+{
+    static char letters[UAF_MOST_COMMAND];
+    const struct hash any = sha256(nothing());
+    const struct caller hollin = caller_of(&a->firms[HOLLIN]);
+    struct bytes content = text("");
+    struct command command;
+    struct response response;
+    require_written(write_sign(&command, hollin, WHOLE(any.bytes), &content, nothing()));
+    const size_t room = UAF_MOST_COMMAND - command.size;
+    for (size_t i = 0; i < room; i++)
+        letters[i] = "7.40 "[i % 5];
+    content = text(letters);
+    require_written(write_sign(&command, hollin, WHOLE(any.bytes), &content, nothing()));
+    if (command.size != UAF_MOST_COMMAND)
+        fail_because("writer", "another length than that of the fields");
+    show("  > Hollin: Sign with content of %zu bytes, a command of %zu; the display cannot show that much\n", room, command.size);
+    sign(
+        a, (struct signing){HOLLIN, nothing(), letters, UAF_SHOWN_NOT_RENDERED}, UAF_STATUS_CANNOT_RENDER_TRANSACTION_CONTENT,
+        &response);
+    show_response(&response);
+
+    show("  > Hollin: Sign with content of %zu bytes\n", room + 1);
+    letters[room] = '.';
+    content = text(letters);
+    show_unwritten(write_sign(&command, hollin, WHOLE(any.bytes), &content, nothing()));
+}
+
 static void strangers(struct afternoon *a)
 {
     struct response with_hers, with_none;
     struct hash ann = key_id_of(a, NORTHGATE, "Ann"), nobody = sha256(text("nobody"));
     const struct table before = a->terminal.table;
-    show("\n7. Hollin tries Ann's key: it cannot even learn that the key exists\n");
+    show("\n8. Hollin tries Ann's key: it cannot even learn that the key exists\n");
     show("  > Hollin: Sign with Ann's key handle, then with one that nobody has\n");
-    sign(a, (struct signing){HOLLIN, WHOLE(ann.bytes), "", UAF_SHOWN_CONFIRMED}, UAF_STATUS_ACCESS_DENIED, &with_hers);
-    sign(a, (struct signing){HOLLIN, WHOLE(nobody.bytes), "", UAF_SHOWN_CONFIRMED}, UAF_STATUS_ACCESS_DENIED, &with_none);
+    sign(a, (struct signing){HOLLIN, WHOLE(ann.bytes), NULL, UAF_SHOWN_CONFIRMED}, UAF_STATUS_ACCESS_DENIED, &with_hers);
+    sign(a, (struct signing){HOLLIN, WHOLE(nobody.bytes), NULL, UAF_SHOWN_CONFIRMED}, UAF_STATUS_ACCESS_DENIED, &with_none);
     show_response(&with_hers);
     if (!same(FILLED(with_hers), FILLED(with_none)))
         fail_because("Sign", "tells a stranger's key from none");
@@ -201,7 +264,7 @@ static void full_table(struct afternoon *a)
 {
     const struct table before = a->terminal.table;
     struct response response;
-    show("\n8. A full table: no holder gets more than 8 places, and there are 32 in all\n");
+    show("\n9. A full table: no holder gets more than 8 places, and there are 32 in all\n");
     show("  > Ashby: Register until it has 8 records, each OK; then a ninth\n");
     fill(a, FIRST_OTHER);
     enrol(a, FIRST_OTHER, "Ninth", UAF_BASIC_SURROGATE, UAF_STATUS_INSUFFICIENT_RESOURCES, &response);
@@ -237,13 +300,13 @@ static void deregister_seller(struct afternoon *a, size_t firm, const char *user
 static void go_home(struct afternoon *a)
 {
     struct response response;
-    show("\n11. Bo and %s go home: one record each is removed, and Northgate's next sign-in is no tie\n", ZOE);
+    show("\n12. Bo and %s go home: one record each is removed, and Northgate's next sign-in is no tie\n", ZOE);
     deregister_seller(a, NORTHGATE, "Bo");
     deregister_seller(a, NORTHGATE, ZOE);
     show("  > Northgate: Sign, no key handle\n");
-    sign_as(a, (struct signing){NORTHGATE, nothing(), "", UAF_SHOWN_CONFIRMED}, "Ann");
+    sign_as(a, (struct signing){NORTHGATE, nothing(), NULL, UAF_SHOWN_CONFIRMED}, "Ann");
 
-    show("\n12. Hollin goes home: an empty KeyID removes all that is Hollin's, and nothing else\n");
+    show("\n13. Hollin goes home: an empty KeyID removes all that is Hollin's, and nothing else\n");
     show("  > Hollin: Deregister with an empty KeyID\n");
     leave(a, HOLLIN, nothing(), UAF_STATUS_OK, &response);
     show_response(&response);
@@ -276,6 +339,9 @@ int main(int argc, char **argv)
     accented_name(&afternoon);
     clear_winner(&afternoon);
     dividends(&afternoon);
+    several_handles(&afternoon);
+    empty_content(&afternoon);
+    longest_command(&afternoon);
     strangers(&afternoon);
     afternoon.terminal.quiet = !verbose;
     full_table(&afternoon);

@@ -2,6 +2,7 @@
 
 #include "fail.h"
 #include "show.h"
+#include "tlv.h"
 
 /* Sets a record's SignCounter: COUNTERS is the last child of a stored record, so these are its last 4 bytes. */
 static void set_count(struct table *table, struct bytes key_id, uint32_t count)
@@ -19,12 +20,12 @@ static void set_count(struct table *table, struct bytes key_id, uint32_t count)
 }
 
 /* Runs the same Sign on a table, without a terminal around it. */
-static void sign_on(const struct afternoon *a, struct bytes key_handle, const struct table *table, struct answer *answer)
+static void sign_on(const struct afternoon *a, struct bytes key_handles, const struct table *table, struct answer *answer)
 {
     const uint8_t nonce[8] = {0};
     const struct hash any = sha256(nothing());
     struct command command;
-    command_sign(&command, caller_of(&a->firms[NORTHGATE]), WHOLE(any.bytes), nothing(), key_handle);
+    require_written(write_sign(&command, caller_of(&a->firms[NORTHGATE]), WHOLE(any.bytes), NULL, key_handles));
     const struct lent lent = {
         .verdict = UAF_VERIFIED,
         .display = UAF_SHOWN_CONFIRMED,
@@ -45,7 +46,7 @@ void last_count(const struct afternoon *a)
     struct table copy = a->terminal.table;
     struct record record;
     struct response response;
-    show("\n9. The last count, on a copy of the table in which Ann's is 4294967294\n");
+    show("\n10. The last count, on a copy of the table in which Ann's is 4294967294\n");
     set_count(&copy, WHOLE(ann.bytes), UINT32_MAX - 1);
 
     show("  > Northgate: Sign with Ann's key handle\n");
@@ -106,38 +107,54 @@ static void refuse_completion(const char *asked, size_t shortage, uint32_t expec
     show_refusal(asked, refusal, expected, &response, sizeof response);
 }
 
-/* Takes the last byte off a record's name. The lengths of the name and of the record, each below 256, stand in front of it. */
+/* Commands that are to be written: one with a name that breaks the rule, and one that is a byte longer than its output. */
+static void refuse_writing(struct caller caller)
+{
+    const struct hash any = sha256(nothing());
+    struct command command;
+    memset(&command, MARK, sizeof command);
+    uint32_t cut = write_register(&command, caller, WHOLE(any.bytes), text(ZOE_CUT), UAF_BASIC_FULL);
+    show_refusal("a Register to write with a name cut inside a letter", cut, UAF_REFUSED_FIELD, &command, sizeof command);
+    uint32_t tight = uaf_write_get_info(command.bytes, 3, &command.size);
+    show_refusal("a GetInfo to write, 4 bytes, into an output of 3", tight, UAF_REFUSED_OUTPUT, &command, sizeof command);
+}
+
+/* Takes the last byte off a record's name. */
 static void cut_name(struct table *table, struct bytes key_id)
 {
-    enum { HEADER = 4, RECORD_TO_NAME = HEADER + (HEADER + 32) + (HEADER + 32) + HEADER };
+    struct bytes rest = FILLED(*table), children, met, name;
     struct record record;
-    if (!record_find(table, key_id, &record))
-        fail_because("record", "none with this KeyID");
-    uint8_t *name = table->bytes + (record.username.at - table->bytes), *end = name + record.username.size;
-    memmove(end - 1, end, table->size - (size_t)(end - table->bytes));
-    table->size -= 1;
-    name[-2] -= 1;
-    name[2 - RECORD_TO_NAME] -= 1;
+    uint16_t tag;
+    while (tlv_next(&rest, &tag, &children))
+        if (tlv_find(children, UAF_TAG_KEYID, &met) && same(met, key_id) && tlv_find(children, UAF_TAG_USERNAME, &name)) {
+            tlv_cut(table->bytes, &table->size, children, name);
+            break;
+        }
     if (!record_find(table, key_id, &record) || !same(record.username, text(ZOE_CUT)))
         fail_because(ZOE, "not cut as it should be");
 }
 
 void refusals(const struct afternoon *a)
 {
-    const uint8_t info[] = {0x01, 0x34, 0x00, 0x00}, sign_tag[] = {0x03, 0x34, 0x00, 0x00}, nonce[8] = {0};
-    const struct bytes three = {info, 3}, seven = {nonce, 7};
+    const uint8_t nonce[8] = {0};
+    const struct caller northgate = caller_of(&a->firms[NORTHGATE]);
     const struct table *table = &a->terminal.table;
+    struct command info, sign;
+    require_written(write_get_info(&info));
+    require_written(write_sign(&sign, northgate, WHOLE(nonce), NULL, nothing()));
+    const struct bytes three = {info.bytes, 3}, seven = {nonce, 7};
     struct table damaged = *table;
     damaged.size -= 1;
     struct table cut = *table;
     const struct hash zoe = key_id_of(a, NORTHGATE, ZOE);
     cut_name(&cut, WHOLE(zoe.bytes));
-    show("\n10. Whatever reaches the port: a number from 1 to 5, and no lent byte is changed\n");
+    show("\n11. Whatever reaches the port: a number from 1 to 6, and no lent byte is changed\n");
     refuse_completion("an output of 4,095 bytes", 1, UAF_REFUSED_OUTPUT);
-    refuse_command("a stored table that lost its last byte", WHOLE(info), UAF_VERIFIED, WHOLE(nonce), &damaged, UAF_REFUSED_TABLE);
-    refuse_command("a stored table with a name cut inside a letter", WHOLE(info), UAF_VERIFIED, WHOLE(nonce), &cut, UAF_REFUSED_TABLE);
+    refuse_command("a stored table that lost its last byte", FILLED(info), UAF_VERIFIED, WHOLE(nonce), &damaged, UAF_REFUSED_TABLE);
+    refuse_command("a stored table with a name cut inside a letter", FILLED(info), UAF_VERIFIED, WHOLE(nonce), &cut, UAF_REFUSED_TABLE);
     refuse_command("a command of 3 bytes", three, UAF_VERIFIED, WHOLE(nonce), table, UAF_REFUSED_COMMAND);
-    refuse_command("a Sign that is lent a nonce of 7 bytes", WHOLE(sign_tag), UAF_VERIFIED, seven, table, UAF_REFUSED_LENT);
-    refuse_command("a Sign with a verdict of 256, whose low byte is 0", WHOLE(sign_tag), 256, WHOLE(nonce), table, UAF_REFUSED_LENT);
+    refuse_command("a Sign that is lent a nonce of 7 bytes", FILLED(sign), UAF_VERIFIED, seven, table, UAF_REFUSED_LENT);
+    refuse_command("a Sign with a verdict of 256, whose low byte is 0", FILLED(sign), 256, WHOLE(nonce), table, UAF_REFUSED_LENT);
     refuse_completion("a draft to complete that is none", 0, UAF_REFUSED_BYTES);
+    refuse_writing(northgate);
 }

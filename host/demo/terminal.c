@@ -53,7 +53,7 @@ static void check_table(const struct table *table)
 {
     struct command command;
     struct answer answer;
-    command_get_info(&command);
+    require_written(write_get_info(&command));
     struct bytes none = nothing();
     struct lent lent = {0, 0, none, none, none, none, none};
     if (token_command(FILLED(command), &lent, table, &answer) != 0)

@@ -32,3 +32,19 @@ bool tlv_find(struct bytes run, uint16_t tag, struct bytes *value)
             return true;
     return false;
 }
+
+/* One less in the length that stands in front of a value. */
+static void shorten(uint8_t *value)
+{
+    if (value[-2]-- == 0)
+        value[-1]--;
+}
+
+void tlv_cut(uint8_t *bytes, size_t *size, struct bytes outer, struct bytes inner)
+{
+    uint8_t *from = bytes + (inner.at - bytes), *end = from + inner.size;
+    memmove(end - 1, end, *size - (size_t)(end - bytes));
+    *size -= 1;
+    shorten(from);
+    shorten(bytes + (outer.at - bytes));
+}

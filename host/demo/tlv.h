@@ -1,5 +1,5 @@
-/* TLVs: a 16-bit tag, a 16-bit length and the value, little-endian. Here is a walk over a stored table that the token wrote
- * or accepted. (A response is read by the token's own reader, see token.h.) */
+/* TLVs: a 16-bit tag, a 16-bit length and the value, little-endian. Here is a walk over a command that the token wrote, or a
+ * stored table that it wrote or accepted. (A response is read by the token's own reader, see token.h.) */
 #ifndef DEMO_TLV_H
 #define DEMO_TLV_H
 
@@ -14,5 +14,9 @@ bool tlv_next(struct bytes *rest, uint16_t *tag, struct bytes *value);
 
 /* The value of the first TLV with that tag in a run of TLVs. */
 bool tlv_find(struct bytes run, uint16_t tag, struct bytes *value);
+
+/* Takes the last byte off a value inside another one, both of them parts of the *size bytes at `bytes`. The lengths in front
+ * of both fall by one, so that they still fit. */
+void tlv_cut(uint8_t *bytes, size_t *size, struct bytes outer, struct bytes inner);
 
 #endif

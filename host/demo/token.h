@@ -1,4 +1,5 @@
-/* A thin layer over the token's four entries: their stretches and numbers as structs, and this token's profile. */
+/* A thin layer over the entries that run, complete and read: their stretches and numbers as structs, and this token's
+ * profile. (The writers of commands are in commands.h.) */
 #ifndef DEMO_TOKEN_H
 #define DEMO_TOKEN_H
 

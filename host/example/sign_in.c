@@ -8,24 +8,8 @@
 
 #include "uaf_token.h"
 
-/* A 16-bit number, little-endian, as two bytes. */
-#define LE(n) (n) & 0xFF, (n) >> 8
-
-/* The commands, as they reach the port. Each TLV is a tag, a length and a value. */
-static const uint8_t register_command[] = {
-    LE(UAF_TAG_REGISTER_CMD), LE(28),
-    LE(UAF_TAG_AUTHENTICATOR_INDEX), LE(1), 0,
-    LE(UAF_TAG_FINAL_CHALLENGE_HASH), LE(1), 0xC1,
-    LE(UAF_TAG_USERNAME), LE(3), 'A', 'n', 'n',
-    LE(UAF_TAG_ATTESTATION_TYPE), LE(2), LE(UAF_BASIC_SURROGATE),
-    LE(UAF_TAG_KEYHANDLE_ACCESS_TOKEN), LE(1), 0xAA,
-};
-static const uint8_t sign_command[] = {
-    LE(UAF_TAG_SIGN_CMD), LE(15),
-    LE(UAF_TAG_AUTHENTICATOR_INDEX), LE(1), 0,
-    LE(UAF_TAG_FINAL_CHALLENGE_HASH), LE(1), 0xC2,
-    LE(UAF_TAG_KEYHANDLE_ACCESS_TOKEN), LE(1), 0xAA,
-};
+/* What the terminal puts into the commands: a challenge hash for each, the seller's name, the access token. */
+static const uint8_t first[] = {0xC1}, second[] = {0xC2}, username[] = {'A', 'n', 'n'}, access_token[] = {0xAA};
 
 /* What the firmware lends: the profile, the hash of access token and AppID, a new KeyID with its public key, a nonce, a hash of content. */
 enum { VERSION = 1, ECDSA_SHA256_DER = 0x0002, ECC_X962_DER = 0x0101 };
@@ -99,8 +83,15 @@ static void show(const uint8_t *response, size_t size)
 
 int main(void)
 {
-    uint8_t response[UAF_LEAST_RESPONSE];
-    show(response, answer(register_command, sizeof register_command, response));
-    show(response, answer(sign_command, sizeof sign_command, response));
+    uint8_t command[UAF_MOST_COMMAND], response[UAF_LEAST_RESPONSE];
+    size_t size;
+    stop_if(uaf_write_register( /* no AppID, no USERVERIFY_TOKEN */
+        UAF_NOT_GIVEN, NULL, 0, first, sizeof first, username, sizeof username, UAF_BASIC_SURROGATE,
+        access_token, sizeof access_token, UAF_NOT_GIVEN, NULL, 0, command, sizeof command, &size));
+    show(response, answer(command, size, response));
+    stop_if(uaf_write_sign( /* nor content, nor key handles */
+        UAF_NOT_GIVEN, NULL, 0, second, sizeof second, UAF_NOT_GIVEN, NULL, 0, access_token, sizeof access_token,
+        UAF_NOT_GIVEN, NULL, 0, NULL, 0, NULL, 0, command, sizeof command, &size));
+    show(response, answer(command, size, response));
     return 0;
 }

@@ -202,8 +202,8 @@ static struct numbers take_results(struct source *source, unsigned flags, bool f
 
 static void lend_outputs(struct source *source, bool front)
 {
-    lend_output(&lent.response, take_output_size(source, UAF_LEAST_RESPONSE), front);
-    lend_output(&lent.table_out, take_output_size(source, UAF_LEAST_TABLE), front);
+    lend_output(&lent.response, take_size_near(source, UAF_LEAST_RESPONSE), front);
+    lend_output(&lent.table_out, take_size_near(source, UAF_LEAST_TABLE), front);
     lend_output(&lent.answer, sizeof(uint32_t), front);
     lend_output(&lent.response_length, sizeof(size_t), front);
     lend_output(&lent.table_length, sizeof(size_t), front);

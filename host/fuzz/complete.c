@@ -59,7 +59,7 @@ int LLVMFuzzerTestOneInput(const uint8_t *data, size_t size)
     bool front = (flags & FRONT) != 0;
     uint32_t kind = take32(&source), attestation = take32(&source);
     size_t signature_size = take_size(&source), certificate_size = take_size(&source);
-    lend_output(&lent.response, take_output_size(&source, UAF_LEAST_RESPONSE), front);
+    lend_output(&lent.response, take_size_near(&source, UAF_LEAST_RESPONSE), front);
     lend_output(&lent.response_length, sizeof(size_t), front);
     unsigned fill = take8(&source);
     lend_filled(&lent.signature, signature_size, fill, front);

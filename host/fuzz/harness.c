@@ -14,6 +14,12 @@ static _Noreturn void fail(const char *name, const char *what)
     abort();
 }
 
+void check(bool holds, const char *name, const char *what)
+{
+    if (!holds)
+        fail(name, what);
+}
+
 void check_returned(uint32_t token, uint32_t peer)
 {
     if (token != peer) {
@@ -163,21 +169,33 @@ const uint8_t *take(struct source *source, size_t *size)
     return bytes;
 }
 
-size_t take_size(struct source *source)
+static size_t size_by(size_t code)
 {
     static const uint16_t limits[] = {
         0,  1,   2,   3,   4,   7,   8,   9,   10,  14,  15,  16,   31,   32,   33,   34,
         64, 127, 128, 129, 255, 256, 257, 511, 512, 513, 514, 2047, 2048, 2049, 2050, MOST_SIZE,
     };
     enum { LIMITS = sizeof limits / sizeof *limits };
-    size_t code = take8(source);
     return code < LIMITS ? limits[code] : 16 * (code - LIMITS);
 }
 
-size_t take_output_size(struct source *source, size_t least)
+size_t take_size(struct source *source)
+{
+    return size_by(take8(source));
+}
+
+size_t take_field_size(struct source *source)
+{
+    enum { CODE_OF_32 = 13 };
+    return size_by(take8(source) ^ CODE_OF_32);
+}
+
+size_t take_size_near(struct source *source, size_t right)
 {
     int more = (int8_t)take8(source);
-    return more == INT8_MIN ? 0 : least + (size_t)more;
+    if (more == INT8_MIN || (more < 0 && (size_t)-more > right))
+        return 0;
+    return right + (size_t)more;
 }
 
 static size_t two_at(const uint8_t *bytes)
@@ -239,7 +257,7 @@ static size_t kind_of(uint8_t byte)
 }
 
 /* Each byte, and the end, by what stands before it: the last byte that is no tail, and how many tails are after that. */
-static void cover_name(const uint8_t *name, size_t size, bool taken)
+void cover_name(const uint8_t *name, size_t size, bool taken)
 {
     enum { OF_NAMES = 6144, MOST_TAILS = 3 };
     size_t lead = NONE, tails = 0;

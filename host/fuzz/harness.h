@@ -54,6 +54,9 @@ void lend_output(struct output *output, size_t size, bool front);
 /* Fails unless both wrote the same, and nothing but the first `written` bytes. */
 void check_output(const struct output *output, size_t written, const char *name);
 
+/* Fails, with that word for it, unless it holds. */
+void check(bool holds, const char *name, const char *what);
+
 /* Fails unless both returned the same. */
 void check_returned(uint32_t token, uint32_t peer);
 
@@ -77,8 +80,11 @@ const uint8_t *take(struct source *source, size_t *size);
 enum { MOST_SIZE = 4096 };
 size_t take_size(struct source *source);
 
-/* The size of an output: its least and a signed byte more, or 0 for -128. */
-size_t take_output_size(struct source *source, size_t least);
+/* The same, but that 0 stands for 32 bytes, which every field of a command may have, and 13 for none. */
+size_t take_field_size(struct source *source);
+
+/* A size that is longer than a right one by a signed byte; where that is below 0, and for -128, it is 0. */
+size_t take_size_near(struct source *source, size_t right);
 
 /* Copies all that is left, at most `most` bytes. With mend the outermost TLV gets the length that it must have, and down from it each last
  * TLV that holds others. */
@@ -88,8 +94,9 @@ size_t take_rest(struct source *source, uint8_t *bytes, size_t most, bool mend);
 enum { CLASSES = 8192 };
 void cover(size_t class);
 
-/* Counts what the usernames in a run of TLVs are made of; taken: whether the call was right with them. The peer leaves UTF-8 to Rust's library, which
- * is built without coverage. */
+/* Counts what a username is made of, or those in a run of TLVs; taken: whether the call was right with it. The peer leaves UTF-8 to Rust's library,
+ * which is built without coverage. */
+void cover_name(const uint8_t *name, size_t size, bool taken);
 void cover_names(const uint8_t *run, size_t size, bool taken);
 
 #endif

@@ -36,4 +36,36 @@ uint32_t peer_read_fields(
     size_t *tag, size_t *status, size_t *count,
     size_t tags[UAF_MOST_FIELDS], size_t places[UAF_MOST_FIELDS], size_t lengths[UAF_MOST_FIELDS]);
 
+uint32_t peer_write_get_info(uint8_t *command, size_t command_size, size_t *command_length);
+
+uint32_t peer_write_register(
+    uint32_t app_id_given, const uint8_t *app_id, size_t app_id_size,
+    const uint8_t *challenge, size_t challenge_size,
+    const uint8_t *username, size_t username_size,
+    uint32_t attestation,
+    const uint8_t *access_token, size_t access_token_size,
+    uint32_t verify_token_given, const uint8_t *verify_token, size_t verify_token_size,
+    uint8_t *command, size_t command_size,
+    size_t *command_length);
+
+uint32_t peer_write_sign(
+    uint32_t app_id_given, const uint8_t *app_id, size_t app_id_size,
+    const uint8_t *challenge, size_t challenge_size,
+    uint32_t content_given, const uint8_t *content, size_t content_size,
+    const uint8_t *access_token, size_t access_token_size,
+    uint32_t verify_token_given, const uint8_t *verify_token, size_t verify_token_size,
+    const uint8_t *handles, size_t handles_size,
+    const size_t *handle_sizes, size_t handle_count,
+    uint8_t *command, size_t command_size,
+    size_t *command_length);
+
+uint32_t peer_write_deregister(
+    uint32_t app_id_given, const uint8_t *app_id, size_t app_id_size,
+    const uint8_t *key_id, size_t key_id_size,
+    const uint8_t *access_token, size_t access_token_size,
+    uint8_t *command, size_t command_size,
+    size_t *command_length);
+
+uint32_t peer_write_open_settings(uint8_t *command, size_t command_size, size_t *command_length);
+
 #endif

@@ -132,6 +132,60 @@ static bool run_read_fields(void)
     return refusal == 0 && *count == 9;
 }
 
+/* The writers, each with all that it can be given. The output has room for the command and no more. */
+enum {
+    WRITTEN_REGISTER = 4 + 5 + 13 + 36 + 7 + 6 + 24 + 11,
+    WRITTEN_SIGN = 4 + 5 + 13 + 36 + 54 + 24 + 11 + 2 * 36,
+    WRITTEN_DEREGISTER = 4 + 5 + 13 + 36 + 24,
+};
+
+static const uint8_t SAME[64];
+
+/* A field that the writer copies and does not look into. */
+#define FIELD(name, size) lend_bytes(name, SAME, size), size
+#define APP_ID UAF_GIVEN, FIELD("app_id", 9)
+#define ACCESS_TOKEN FIELD("access_token", 20)
+#define VERIFY_TOKEN UAF_GIVEN, FIELD("verify_token", 7)
+
+static bool run_write_get_info(void)
+{
+    size_t *length = (size_t *)lend("command_length", sizeof *length);
+    return uaf_write_get_info(lend("command", 4), 4, length) == 0 && *length == 4;
+}
+
+static bool run_write_register(void)
+{
+    size_t *length = (size_t *)lend("command_length", sizeof *length);
+    uint32_t refusal = uaf_write_register(
+        APP_ID, FIELD("challenge", 32), lend_bytes("username", (const uint8_t *)"Ann", 3), 3, UAF_BASIC_FULL, ACCESS_TOKEN, VERIFY_TOKEN,
+        lend("command", WRITTEN_REGISTER), WRITTEN_REGISTER, length);
+    return refusal == 0 && *length == WRITTEN_REGISTER;
+}
+
+static bool run_write_sign(void)
+{
+    static const size_t sizes[2] = {32, 32};
+    size_t *length = (size_t *)lend("command_length", sizeof *length);
+    uint32_t refusal = uaf_write_sign(
+        APP_ID, FIELD("challenge", 32), UAF_GIVEN, FIELD("content", 50), ACCESS_TOKEN, VERIFY_TOKEN, FIELD("handles", 64),
+        (const size_t *)lend_bytes("handle_sizes", (const uint8_t *)sizes, sizeof sizes), 2, lend("command", WRITTEN_SIGN), WRITTEN_SIGN, length);
+    return refusal == 0 && *length == WRITTEN_SIGN;
+}
+
+static bool run_write_deregister(void)
+{
+    size_t *length = (size_t *)lend("command_length", sizeof *length);
+    uint32_t refusal = uaf_write_deregister(
+        APP_ID, FIELD("key_id", 32), ACCESS_TOKEN, lend("command", WRITTEN_DEREGISTER), WRITTEN_DEREGISTER, length);
+    return refusal == 0 && *length == WRITTEN_DEREGISTER;
+}
+
+static bool run_write_open_settings(void)
+{
+    size_t *length = (size_t *)lend("command_length", sizeof *length);
+    return uaf_write_open_settings(lend("command", 9), 9, length) == 0 && *length == 9;
+}
+
 /* Whether the call in a process of its own faults. */
 static bool faults(bool (*run)(void), const char *name, bool front)
 {
@@ -188,6 +242,13 @@ int main(void)
     try_each("GetInfo", run_get_info, NAMES("command", "aaid", "metadata", "table", "response", "table_out"));
     try_each("signed_part", run_signed_part, NAMES("response", "place", "length"));
     try_each("read_fields", run_read_fields, NAMES("response", "tag", "status", "count", "tags", "places", "lengths"));
+    try_each("write_get_info", run_write_get_info, NAMES("command", "command_length"));
+    try_each("write_register", run_write_register, NAMES("app_id", "challenge", "username", "access_token", "verify_token", "command",
+                                                         "command_length"));
+    try_each("write_sign", run_write_sign, NAMES("app_id", "challenge", "content", "access_token", "verify_token", "handles", "handle_sizes",
+                                                 "command", "command_length"));
+    try_each("write_deregister", run_write_deregister, NAMES("app_id", "key_id", "access_token", "command", "command_length"));
+    try_each("write_open_settings", run_write_open_settings, NAMES("command", "command_length"));
     printf("guard pages: %d calls with a stretch one byte short, %d faults\n", tried, seen);
     return seen == tried ? 0 : 1;
 }

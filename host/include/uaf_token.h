@@ -6,7 +6,8 @@
  * Otherwise it points to that many bytes, of any alignment.
  *
  * Numbers and arrays that an entry writes (answer, response_length, tags and so on) are lent by a pointer that is not NULL and is aligned for
- * its type, also where the call will be refused.
+ * its type, also where the call will be refused. An array that an entry reads (handle_sizes) is lent like a stretch, but aligned for its type, with
+ * the number of its elements.
  *
  * Overlap. Inputs may overlap each other. An output, and a number or an array that an entry writes, overlaps nothing else that is lent: so the
  * table is read from one buffer and written into another, and a draft is copied out of the response output before it is completed into it.
@@ -16,12 +17,12 @@
  *
  * Usernames. A username is 1 to 128 bytes of well-formed UTF-8 by RFC 3629: each letter whole and in its shortest form, none a surrogate or over
  * U+10FFFF. NUL and other controls are letters like the rest, so a name is no C string. Any other name is answered by Register with status 0x08,
- * whatever the verdict; a table that has one is refused with 2, and a list of names that has one is no response, 5. So every name that the token
- * writes or reads is text, and who has to shorten a name cuts it between two letters.
+ * whatever the verdict; a table that has one is refused with 2, a list of names that has one is no response, 5, and no Register is written with
+ * one, 6. So every name that the token writes or reads is text, and who has to shorten a name cuts it between two letters.
  *
  * What they need. The archive is for x86-64, ELF, the System V calling convention. It calls no function outside itself, not even of the C
- * library; it has no data that is written, uses no heap and makes no system call. A command takes less than 2 KB of stack, completion and reader
- * less than 1. */
+ * library; it has no data that is written, uses no heap and makes no system call. A command takes less than 2 KB of stack, completion, reader and
+ * writers less than 1. */
 #ifndef UAF_TOKEN_H
 #define UAF_TOKEN_H
 
@@ -36,10 +37,11 @@ extern "C" {
  * stored form or what an entry answers has changed or is gone. The minor number rises where something was added that such a caller need not
  * know, and begins again at 0 with a new major one.
  *
+ * 2.1: the writers of commands, and refusal 6, which only they give.
  * 2.0: a username is UTF-8. For 1.0 any 1 to 128 bytes were one, so a table that 1.0 wrote may have a name for which 2.0 refuses it. */
 #define UAF_TOKEN_MAJOR 2
-#define UAF_TOKEN_MINOR 0
-#define UAF_TOKEN_VERSION "2.0"
+#define UAF_TOKEN_MINOR 1
+#define UAF_TOKEN_VERSION "2.1"
 
 /* Refusals, statuses and tags stand in a list each, one X(NAME, number) for each of them. From these are made, below, the constants
  * UAF_REFUSED_NAME, UAF_STATUS_NAME and UAF_TAG_NAME, and the functions that give names for a log. */
@@ -50,7 +52,8 @@ extern "C" {
     X(TABLE, 2, "the stored table breaks a rule") \
     X(COMMAND, 3, "fewer than 4 bytes, or none of the five commands") \
     X(LENT, 4, "a lent result that this command or completion uses has a wrong length or number") \
-    X(BYTES, 5, "no draft of this kind, or no response")
+    X(BYTES, 5, "no draft of this kind, or no response") \
+    X(FIELD, 6, "a field or the number of key handles breaks a rule, or the command would be too long")
 
 /* Statuses, in the STATUS_CODE of a response, by the names of UAF Authenticator Commands without UAF_CMD_STATUS_. */
 #define UAF_STATUSES(X) \
@@ -201,6 +204,61 @@ static inline const char *uaf_tag_name(size_t tag)
 /* What was written into the response output. A draft is no response: it is to be signed and completed. */
 #define UAF_RESPONSE 0
 #define UAF_DRAFT 1
+
+/* Whether a field is given to a writer of commands. */
+#define UAF_NOT_GIVEN 0
+#define UAF_GIVEN 1
+
+/* The writers of commands, one for each of the five, with its command's own fields, in the order of the tables of UAF Authenticator Commands, in which
+ * they are written. The index is written as 0. Nothing is written that is not given. Refusals, in this order: 6, 1; for GetInfo and Open settings 1
+ * alone. 1 is an output shorter than the command.
+ *
+ * 6 is a field that breaks its rule, which is the one that uaf_command goes by, or a command of more than UAF_MOST_COMMAND bytes: AppID is 1 to 512
+ * bytes, the challenge hash 1 to 32, a username as is said above, an attestation type 0 to 65,535 (Register answers those that are neither of the two with
+ * 0x07), the access token 1 to 32, a KeyID 32 or, for all records of the holder, 0, a key handle 32 and at most 8 of them; transaction content and
+ * USERVERIFY_TOKEN are as long as the command has room for.
+ *
+ * Given or not. AppID, transaction content and USERVERIFY_TOKEN may be left away: before each stands UAF_GIVEN or UAF_NOT_GIVEN, and any other number is
+ * 6. Neither the bytes nor the length of one that is not given are looked at. One that is given and empty is not the same as one that is not given:
+ * an empty AppID is 6, and the other two are then written with length 0.
+ *
+ * Key handles run together in one stretch; handle_sizes has the length of each, in the order in which they are written, and one that is given twice is
+ * written twice. Lengths that do not add up to the stretch are 6.
+ *
+ * After 0 the first *command_length bytes of command are the command. It has the index, these fields and nothing else, and breaks no rule:
+ * uaf_command neither refuses it with 3 nor answers it with status 0x08. Every command that breaks no rule has one such form, no longer than it,
+ * which uaf_command answers as it answers the command itself: the one that is written of its own fields. */
+uint32_t uaf_write_get_info(uint8_t *command, size_t command_size, size_t *command_length);
+
+uint32_t uaf_write_register(
+    uint32_t app_id_given, const uint8_t *app_id, size_t app_id_size,
+    const uint8_t *challenge, size_t challenge_size,
+    const uint8_t *username, size_t username_size,
+    uint32_t attestation,
+    const uint8_t *access_token, size_t access_token_size,
+    uint32_t verify_token_given, const uint8_t *verify_token, size_t verify_token_size,
+    uint8_t *command, size_t command_size,
+    size_t *command_length);
+
+uint32_t uaf_write_sign(
+    uint32_t app_id_given, const uint8_t *app_id, size_t app_id_size,
+    const uint8_t *challenge, size_t challenge_size,
+    uint32_t content_given, const uint8_t *content, size_t content_size,
+    const uint8_t *access_token, size_t access_token_size,
+    uint32_t verify_token_given, const uint8_t *verify_token, size_t verify_token_size,
+    const uint8_t *handles, size_t handles_size,
+    const size_t *handle_sizes, size_t handle_count,
+    uint8_t *command, size_t command_size,
+    size_t *command_length);
+
+uint32_t uaf_write_deregister(
+    uint32_t app_id_given, const uint8_t *app_id, size_t app_id_size,
+    const uint8_t *key_id, size_t key_id_size,
+    const uint8_t *access_token, size_t access_token_size,
+    uint8_t *command, size_t command_size,
+    size_t *command_length);
+
+uint32_t uaf_write_open_settings(uint8_t *command, size_t command_size, size_t *command_length);
 
 /* Runs GetInfo, Register, Sign, Deregister or Open settings on a table in its stored form; the table before the first call has length 0.
  * Refusals, in this order: 1, 2, 3, 4.

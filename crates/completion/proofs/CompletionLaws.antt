@@ -1,6 +1,6 @@
 -- Completions: what a draft is and how long it can be, what is asked of its seal, and what the function gives.
 -- Assumes nothing.
-use mathlib.Core.Path.{_≡_, refl, sym, _∙_}
+use mathlib.Core.Path.{_≡_, refl, sym, ap, _∙_}
 use mathlib.Core.Bool.{Bool, true, false, cond, _&&_, _||_, or-false}
 use mathlib.Core.List.{List, []}
 use Prim.Native.Nat.{ℕ, _+_, _≤_, _<_}
@@ -11,7 +11,7 @@ use borrow.Author.Tests.{lt-ltb, le-ltb, eq-eqb, ne-eqb, eqb-true}
 use Rattle.model.specs.Lists.{empty}
 use Rattle.model.specs.Tlv.{le, fits, signature, certificate, full, surrogate}
 use Rattle.model.specs.Layouts.{end, reads}
-use Rattle.model.specs.Commands.{judge, Result, refused, keyRegistrationData, signedData, leastOutput}
+use Rattle.model.specs.Commands.{judge, refused, gave, keyRegistrationData, signedData, leastOutput}
 use Rattle.model.specs.Complete.{Completion, draftsOf, isDraft, completionOk, completed, complete}
 use Rattle.model.proofs.Basics.{split, clash, and-left, and-right}
 use Rattle.model.proofs.LayoutLaws.{most, fits-most}
@@ -20,9 +20,9 @@ use Rattle.model.proofs.CommandWrites.{drafts-each}
 use Rattle.model.proofs.Refusals.{completes}
 use Rattle.tlv.specs.Writing.{Wrote}
 use Rattle.tlv.proofs.HeadLaws.{empty-size}
-use Rattle.tlv.proofs.WriteLaws.{front}
 use Rattle.layouts.proofs.SizeLaws.{reads-most}
 use Rattle.fields.specs.Refusals.{ended, ends}
+use Rattle.fields.proofs.RefusalLaws.{ends-wrote}
 use Rattle.fields.specs.declared.refusals.Written.the-variants as written
 use Rattle.completion.specs.Completions.{completion}
 
@@ -83,10 +83,6 @@ seal-alone x e = sym e
 
 -- ---- what the function gives
 
-pub ends-refused : (n : ℕ) {o : Result (List ℕ)} {out : List ℕ} → o ≡ refused n → ended (written.Refused n) out ≡ ends o out
-unfolding ends
-ends-refused n e = rw e
-
 -- the three tests passed
 pub record Passes (x : Completion) : Type 0 where
   pub room : leastOutput ≤ x .output
@@ -129,8 +125,7 @@ module _ {x : Completion} (p : Passes x) where
 
   module _ {out out′ : List ℕ} {r : ℕ} where
     wrote-ends : {s : List ℕ} → completed x ≡ s → Wrote out 0 s r out′ r → ended (written.Wrote r) out′ ≡ ends (complete x) out
-    unfolding ends
-    wrote-ends e w = rw (completes x (p .room) (p .draft) (p .seal), e, w .size, front w .1)
+    wrote-ends e w = ends-wrote (completes x (p .room) (p .draft) (p .seal) ∙ ap gave e) w
 
     -- each writer's contract names only what a response of its form holds
     pub sign-ends : x .kind ≡ 1 → Wrote out 0 (completed (completion 1 (x .draft) 0 (x .signature) [] 0)) r out′ r

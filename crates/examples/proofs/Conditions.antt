@@ -14,7 +14,8 @@ use Rattle.model.specs.Commands.{Lent, refused, gave, response, draft, register
 use Rattle.model.specs.Traces.{Form, itself, inStoredForm, Step, callsOf, Seen, observe, final, fresh, roomy, Comparable}
 use Rattle.model.proofs.Basics.{impossible}
 use Rattle.model.proofs.Computing.{computing}
-use Rattle.model.proofs.Witness.{zeros, byte, child, command, lending}
+use Rattle.model.specs.Writer.{command}
+use Rattle.model.proofs.Witness.{zeros, byte, child, lending}
 use Rattle.model.proofs.Separation.{run, run-is, separation}
 
 -- ---- calls

@@ -4,3 +4,4 @@ pub mod Examples
 pub mod Limits
 pub mod LimitsRead
 pub mod Names
+pub mod Writes

@@ -1,2 +1,3 @@
--- What a size says of a value.
+-- What a size says of a value, and a result of what a function says.
 pub mod FieldLaws
+pub mod RefusalLaws

@@ -1,4 +1,5 @@
-// What an entry that gives no result says: document 01's numbers. A call checks 1 to 4 in this order, a completion 1, 5 and 4, the reader 5 alone.
+// What an entry that gives no result says: document 01's numbers, and those that document 02 adds. A call checks 1 to 4 in this order, a
+// completion 1, 5 and 4, the reader 5 alone, a writer of commands 6 and 1.
 
 // An output shorter than what may be written into it.
 pub const SHORT_OUTPUT: u32 = 1;
@@ -14,6 +15,9 @@ pub const WRONG_LENT: u32 = 4;
 
 // A draft or a response that nothing writes.
 pub const NOT_WRITTEN: u32 = 5;
+
+// A field or the number of key handles breaks a rule, or the command would be too long.
+pub const BAD_FIELD: u32 = 6;
 
 // What a function with one output says: a refusal, by its number, or the length of what it wrote.
 pub enum Written {

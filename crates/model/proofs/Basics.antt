@@ -6,7 +6,7 @@ use mathlib.Core.List.{List, [], _∷_, _++_, map}
 use mathlib.Core.Option.{some}
 use Prim.Native.Nat.{ℕ, zero, suc, _≤_, _<_}
 use native.Mathlib.Omega.{arith}
-use lib.ListN.{length}
+use lib.ListN.{length, getD}
 use lib.Dec.{leb, eqb}
 use borrow.Author.Tests.{leb-true, leb-false, eqb-true, eqb-false, eq-eqb}
 use Rattle.model.specs.Lists.{all, select, first, eqBytes}
@@ -142,6 +142,12 @@ module _ {A : Type 0} where
       let ih : all p (select q xs) ≡ true = all-select p q xs (and-right (p x) _ e) in
       split (q x) (λ f. rw f (both (and-left (p x) _ e) ih)) (λ f. rw f ih)
 
+  -- one that passes, and a default that does
+  pub all-got : (p : A → Bool) (xs : List A) (i : ℕ) (d : A) → all p xs ≡ true → p d ≡ true → p (getD xs i d) ≡ true
+  all-got p [] i d e h = h
+  all-got p (x ∷ xs) zero d e h = and-left (p x) _ e
+  all-got p (x ∷ xs) (suc i) d e h = all-got p xs i d (and-right (p x) _ e) h
+
   pub length-select : (p : A → Bool) (xs : List A) → length (select p xs) ≤ length xs
   length-select p [] = omega arith
   length-select p (x ∷ xs) =
@@ -197,6 +203,14 @@ module _ {A : Type 0} where
   each-all p P f [] e = refl
   each-all p P f (x ∷ xs) e = both (f x (e .0)) (each-all p P f xs (e .1))
 
+  pub each-of : (P : A → Type 0) → ((x : A) → P x) → (xs : List A) → Each P xs
+  each-of P f [] = tt
+  each-of P f (x ∷ xs) = (f x, each-of P f xs)
+
+  pub each-same : (P Q : A → Type 0) → ((x : A) → P x → Q x) → (xs : List A) → Each P xs → Each Q xs
+  each-same P Q f [] e = tt
+  each-same P Q f (x ∷ xs) e = (f x (e .0), each-same P Q f xs (e .1))
+
 -- ---- lists of checks
 
 -- every check passes
@@ -212,6 +226,14 @@ module _ {A : Type 0} where
   judged P [] says passed f g = g tt
   judged P (c ∷ cs) says passed f g =
       split (c .fails) (λ e. rw e (f (c .says))) (λ e. rw e (judged P cs says passed f (λ k. g (e, k))))
+
+  -- what holds of the number of each check that fails, and of the result, holds of the judgment
+  pub judged-each : (P : A → Type 0) (cs : List Check) (says : ℕ → A) (passed : A) → Each (λ c. c .fails ≡ true → P (says (c .says))) cs
+      → P passed → P (judge cs says passed)
+  unfolding judge
+  judged-each P [] says passed f g = g
+  judged-each P (c ∷ cs) says passed f g =
+      split (c .fails) (λ e. rw e (f .0 e)) (λ e. rw e (judged-each P cs says passed (f .1) g))
 
   pub passes : (cs : List Check) (says : ℕ → A) (passed : A) → Passed cs → judge cs says passed ≡ passed
   unfolding judge

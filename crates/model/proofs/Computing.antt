@@ -1,4 +1,4 @@
--- For examples that are computed: to unfold `computing` is to unfold all that a call and a trace compute with; and the caller, commands and answers
+-- For examples that are computed: to unfold `computing` is to unfold all that a call, a trace and a writer compute with; and the caller, commands and answers
 -- that several tables of examples share, byte by byte.
 -- Assumes nothing.
 use Prim.Native.Nat.{ℕ, zero, suc, _+_}
@@ -10,10 +10,11 @@ use Rattle.model.specs.Tlv.{num, le, bytes, tlvsPast, wellFormed, fits, 
 use Rattle.model.specs.Layouts.{fill, write, matches}
 use Rattle.model.specs.Records.{Record, Table, recordOk, own, tableOk, encode, storedAs, decode}
 use Rattle.model.specs.Commands.{Lent, profileOk, lentOk, judge, apply, only, infoResponse, decideGetInfo, registerDraft, registerChecks, decideRegister, chosen, nameResponse, hasContent, signDraft, signOne, signChosen, decideSign, decideDeregister, decideOpenSettings, decide, perform, tableOf, refusals, outcome}
+use Rattle.model.specs.Writer.{marked, number, pieces, childrenFor, commandOf, eachOk, writable, writeValues, valuesIn, formOf}
 use Rattle.model.specs.Traces.{Form, itself, inStoredForm, result, next, final, callsOf, observe, fresh, roomy}
 
 unfoldable pub computing : Unit {0}
-unfolding eqBytes follow utf8After num le bytes tlvsPast wellFormed fits kindOf childrenOk children broken fieldsIn fieldIn fill write matches recordOk own tableOk encode storedAs decode profileOk lentOk judge apply only infoResponse decideGetInfo registerDraft registerChecks decideRegister chosen nameResponse hasContent signDraft signOne signChosen decideSign decideDeregister decideOpenSettings decide perform tableOf refusals outcome result next final callsOf observe fresh roomy
+unfolding eqBytes follow utf8After num le bytes tlvsPast wellFormed fits kindOf childrenOk children broken fieldsIn fieldIn fill write matches recordOk own tableOk encode storedAs decode profileOk lentOk judge apply only infoResponse decideGetInfo registerDraft registerChecks decideRegister chosen nameResponse hasContent signDraft signOne signChosen decideSign decideDeregister decideOpenSettings decide perform tableOf refusals outcome marked number pieces childrenFor commandOf eachOk writable writeValues valuesIn formOf result next final callsOf observe fresh roomy
 computing = tt
 
 -- two facts that are computed, one for each form: as clauses each would be computed once more

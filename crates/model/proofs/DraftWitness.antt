@@ -15,6 +15,7 @@ use Rattle.model.specs.Layouts.{end, fill, write, reads}
 use Rattle.model.specs.Records.{Record, Table, recordOk, own, tableOk, maxCount}
 use Rattle.model.specs.Commands.{Lent, value, draft, keyRegistrationData, signedData, lentOk, judge, registerDraft, registerChecks, decideRegister, chosen, hasContent, signDraft, signOne, signChosen, decideSign, decide, perform}
 use Rattle.model.specs.Complete.{draftsOf, isDraft}
+use Rattle.model.specs.Writer.{command}
 use Rattle.model.proofs.Basics.{both, eqBytes-eq}
 use Rattle.model.proofs.Numbers.{length-le, bytes-le, num-le, le-num, num-bound}
 use Rattle.model.proofs.Tlvs.{Sized}
@@ -22,7 +23,7 @@ use Rattle.model.proofs.LayoutLaws.{AllBytes, fits-most, fits-least, re
 use Rattle.model.proofs.CommandWrites.{completionKind, drafts-each, draft-taken}
 use Rattle.model.proofs.LayoutWritten.{any-found, each-member}
 use Rattle.model.proofs.LentLaws.{profile-ok}
-use Rattle.model.proofs.Witness.{Answered, zeros, byte, zero-bytes, command, calling, lending, registering, signing, calling-gives, total, not-broken, fields-command, taken, Fit, fit-each}
+use Rattle.model.proofs.Witness.{Answered, zeros, byte, zero-bytes, calling, lending, registering, signing, calling-gives, total, not-broken, fields-command, taken, Fit, fit-each}
 
 -- some allowed inputs make the command of this kind write this draft
 pub record Drafted (kind : ℕ) (d : List ℕ) : Type 0 where

@@ -1,20 +1,22 @@
 -- The edges: statuses in their order, the full table, removals, and a stranger's KeyID; EdgesSign has those of Sign.
 -- Assumes nothing.
 use mathlib.Core.Path.{_≡_, refl, sym, ap, _∙_}
-use mathlib.Core.Bool.{Bool, true, false, not, cond, _||_}
+use mathlib.Core.Bool.{Bool, true, false, not, cond, _&&_, _||_}
 use mathlib.Core.List.{List, [], _∷_, _++_}
 use mathlib.Core.Logic.{_⊎_, inl, inr}
 use Prim.Native.Nat.{ℕ, suc, _+_, _≤_, _<_}
 use native.Mathlib.Omega.{arith}
 use lib.ListN.{length, length-append}
-use lib.Dec.{eqb, leb}
-use borrow.Author.Tests.{le-leb, lt-leb, eq-eqb, ne-eqb}
+use lib.Dec.{eqb, leb, ltb}
+use borrow.Author.Tests.{le-leb, lt-leb, eq-eqb, ne-eqb, eqb-false, ltb-true, not-true}
 use Rattle.model.specs.Lists.{consIf, select, empty, eqBytes, among, distinct, all}
 use Rattle.model.specs.Tlv.{num, le, tlv, bytes, textPlain, uafV1Tlv, challengeHash, attestationType, username, keyIdOrNone, full, surrogate, Kind, getInfo, register, sign, deregister, openSettings, broken, fieldIn, responseTag}
 use Rattle.model.specs.Layouts.{fill, write}
 use Rattle.model.specs.Records.{Record, Table, own, keyIds, hasMixed, tableOk, maxOwn, maxRecords}
-use Rattle.model.specs.Commands.{Lent, Call, mixedOf, judge, response, draft, keep, add, isKey, apply, Decision, only, verdictStatus, infoResponse, decideGetInfo, registerDraft, registerChecks, decideRegister, decideSign, decideDeregister, decideOpenSettings, decide, Effect, perform}
-use Rattle.model.proofs.Basics.{split, clash, and-left, and-right, both, eqBytes-eq, eqBytes-not, eqBytes-sym, all-same, select-all, impossible}
+use Rattle.model.specs.Commands.{Lent, Call, mixedOf, judge, response, draft, Change, keep, add, isKey, apply, Decision, only, verdictStatuses, verdictStatus, infoResponse, nameResponse, displayStatuses, displayStatus, signOne, signChosen, decideGetInfo, registerDraft, registerChecks, decideRegister, decideSign, decideDeregister, decideOpenSettings, decide, Effect, perform}
+use Rattle.model.proofs.Basics.{split, clash, and-left, and-right, both, eqBytes-eq, eqBytes-not, eqBytes-sym, all-same, select-all, all-got, judged-each, impossible}
+use Rattle.model.proofs.Numbers.{num-le}
+use Rattle.model.proofs.Kept.{statusOf}
 use Rattle.model.proofs.Rules.{obeys-rules}
 use Rattle.model.proofs.Separation.{other-apply}
 
@@ -40,6 +42,32 @@ verifies sign = true
 verifies deregister = false
 verifies openSettings = false
 
+-- an answer other than 0x08
+abbrev Valid : Decision → Type 0
+Valid d = statusOf (d .answer) ≡ 0x08 → ⊥
+
+-- a number of two bytes other than 8
+abbrev isValid : ℕ → Bool
+isValid n = ltb n 65536 && not (eqb n 0x08)
+
+status-valid : (k : Kind) (ch : Change) (n : ℕ) → isValid n ≡ true → Valid (only k ch n)
+unfolding only write fill bytes le
+status-valid k ch n e h =
+    let i : num (le 2 n) ≡ n = num-le 2 n (ltb-true n 65536 (and-left (ltb n 65536) _ e)) in
+    eqb-false n 0x08 (not-true _ (and-right (ltb n 65536) _ e)) (sym i ∙ h)
+
+says-verdict : (k : Kind) (v : ℕ) → Valid (only k keep (verdictStatus v))
+says-verdict k v = status-valid k keep (verdictStatus v) (all-got isValid (0x00 ∷ verdictStatuses) v 0x00 refl refl)
+
+says-display : (d : ℕ) → Valid (only sign keep (displayStatus d))
+says-display d = status-valid sign keep (displayStatus d) (all-got isValid (0x00 ∷ displayStatuses) d 0x00 refl refl)
+
+chosen-valid : (s : List ℕ) (l : Lent) (rs : Table) → Valid (signChosen s l rs)
+unfolding signChosen signOne nameResponse write fill bytes le num
+chosen-valid s l [] = status-valid sign _ 0x02 refl
+chosen-valid s l (r ∷ []) = judged-each Valid _ _ _ ((λ b. says-display (l .display)), ((λ b. status-valid sign _ 0x01 refl), tt)) (λ h. absurd (omega arith))
+chosen-valid s l (r ∷ q ∷ rs) = λ h. absurd (omega arith)
+
 module _ (c : Call) (t : Table) where
   -- 0x08 comes first
   pub invalid-first : (k : Kind) → broken k (c .command) ≡ true → perform k c t ≡ says k 0x08 t
@@ -49,6 +77,31 @@ module _ (c : Call) (t : Table) where
   invalid-first sign e = rw e
   invalid-first deregister e = rw e
   invalid-first openSettings e = rw e
+
+  -- and is answered for nothing else
+  decided-valid : (k : Kind) → broken k (c .command) ≡ false → (mine : Table) (taken filled : Bool)
+      → Valid (decide k (c .command) (c .lent) mine taken filled)
+  unfolding decide decideGetInfo infoResponse decideRegister registerChecks decideSign decideDeregister decideOpenSettings write fill bytes le num
+  decided-valid getInfo e mine taken filled = judged-each Valid _ _ _ ((λ b. clash b e), tt) (λ h. absurd (omega arith))
+  decided-valid register e mine taken filled =
+      judged-each Valid _ _ _ (
+        (λ b. clash b e),
+        (
+          (λ b. says-verdict register (c .lent .verdict)),
+          ((λ b. status-valid register _ 0x07 refl), ((λ b. status-valid register _ 0x01 refl), ((λ b. status-valid register _ 0x0F refl), tt))),
+        ),
+      )
+      (λ h. absurd (omega arith))
+  decided-valid sign e mine taken filled =
+      judged-each Valid _ _ _ ((λ b. clash b e), ((λ b. says-verdict sign (c .lent .verdict)), tt)) (chosen-valid (c .command) (c .lent) _)
+  decided-valid deregister e mine taken filled =
+      judged-each Valid _ _ _ ((λ b. clash b e), ((λ b. status-valid deregister _ 0x02 refl), tt)) (status-valid deregister _ 0x00 refl)
+  decided-valid openSettings e mine taken filled =
+      judged-each Valid _ _ _ ((λ b. clash b e), tt) (status-valid openSettings _ 0x06 refl)
+
+  pub invalid-only : (k : Kind) → broken k (c .command) ≡ false → statusOf (perform k c t .answer) ≡ 0x08 → ⊥
+  unfolding perform
+  invalid-only k e = decided-valid k e _ _ _
 
   -- then the verdict
   pub verdict-next : (k : Kind) → verifies k ≡ true → broken k (c .command) ≡ false → (c .lent .verdict ≡ 0 → ⊥)

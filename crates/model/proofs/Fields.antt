@@ -38,7 +38,7 @@ all-first p q (y ∷ xs) {x} e f =
     (λ h. all-first p q xs (and-right (p y) _ e) (rw h at f))
 
 -- the values of a listed field
-values-fit : (fs : List Listed) (f : Field) (l : Listed) → listed fs (tagOf f) ≡ some l → (ts : List Tlv)
+pub values-fit : (fs : List Listed) (f : Field) (l : Listed) → listed fs (tagOf f) ≡ some l → (ts : List Tlv)
     → all (λ c. childOk c (listed fs (c .tag))) ts ≡ true → all (fits (l .field)) (valuesOf f ts) ≡ true
 values-fit fs f l h [] e = refl
 values-fit fs f l h (c ∷ ts) e =

@@ -24,6 +24,8 @@ pub mod DraftWitness
 pub mod ResponseWitness
 pub mod Exactness
 pub mod Order
+pub mod WriterLaws
+pub mod WriterForms
 pub mod Separation
 pub mod Edges
 pub mod EdgesSign

@@ -1,9 +1,10 @@
--- "Children may come in any order": a command decides the same whatever the order of children with different tags.
+-- What is decided depends only on whether a rule is broken and on the values of the fields that the command lists. So "Children may come in any
+-- order": the order of children with different tags changes nothing.
 -- Assumes nothing.
 use mathlib.Core.Path.{_≡_, refl, sym, _∙_}
 use mathlib.Core.Bool.{Bool}
 use mathlib.Core.List.{List, [], _∷_, _++_}
-use mathlib.Core.Option.{Option, none, some, map-eq-some-iff}
+use mathlib.Core.Option.{Option, none, some, Option·getD, map-eq-some-iff}
 use Prim.Native.Nat.{ℕ, zero, suc, _+_, _≤_}
 use native.Mathlib.Omega.{arith}
 use lib.ListN.{length, take, drop, length-drop}
@@ -11,12 +12,50 @@ use lib.Seq.{length-take-le}
 use lib.Dec.{eqb}
 use borrow.Author.Tests.{eqb-true}
 use Rattle.model.specs.Lists.{all}
-use Rattle.model.specs.Tlv.{num, Tlv, tlvsPast, Kind, getInfo, register, sign, deregister, openSettings, Field, challengeHash, username, attestationType, keyHandle, keyIdOrNone, transactionContent, Listed, fieldsOf, tagOf, kindOf, fills, maxCommand, childOk, listed, valuesOf, timesOk, childrenOk, children, broken, fieldsIn, fieldIn}
+use Rattle.model.specs.Tlv.{num, Tlv, tlvsPast, Kind, getInfo, register, sign, deregister, openSettings, Field, challengeHash, username, attestationType, keyIdOrNone, transactionContent, Listed, fieldsOf, tagOf, kindOf, fills, maxCommand, childOk, listed, valuesOf, timesOk, childrenOk, children, broken, fieldsIn, fieldIn}
 use Rattle.model.specs.Records.{Table}
 use Rattle.model.specs.Commands.{Lent, Given, decideGetInfo, registerDraft, registerChecks, decideRegister, hasContent, signDraft, signOne, signChosen, decideSign, decideDeregister, decideOpenSettings, decide, perform, refusals, outcome}
-use Rattle.model.proofs.Basics.{split, impossible}
+use Rattle.model.specs.Writer.{command}
+use Rattle.model.proofs.Basics.{split, impossible, Each, each-of}
 use Rattle.model.proofs.Tlvs.{Sized}
-use Rattle.model.proofs.Witness.{command, total, children-command}
+use Rattle.model.proofs.Witness.{total, children-command}
+
+-- ---- the same rules kept or broken, and the same values of the listed fields
+
+abbrev pub SameValues : Kind → List ℕ → List ℕ → Type 0
+SameValues k s u = Each (λ f. fieldsIn (f .field) s ≡ fieldsIn (f .field) u) (fieldsOf k)
+
+module _ (s u : List ℕ) where
+  first-alike : (f : Field) → fieldsIn f s ≡ fieldsIn f u → fieldIn f s ≡ fieldIn f u
+  unfolding fieldIn
+  first-alike f e = rw e
+
+  chosen-alike : fieldsIn challengeHash s ≡ fieldsIn challengeHash u → fieldsIn transactionContent s ≡ fieldsIn transactionContent u
+      → (l : Lent) (rs : Table) → signChosen s l rs ≡ signChosen u l rs
+  unfolding signChosen signOne signDraft hasContent
+  chosen-alike c t l [] = refl
+  chosen-alike c t l (r ∷ []) = rw (first-alike transactionContent t, first-alike challengeHash c)
+  chosen-alike c t l (r ∷ q ∷ rs) = refl
+
+pub alike : (k : Kind) (s u : List ℕ) → broken k s ≡ broken k u → SameValues k s u → (l : Lent) (mine : Table) (taken filled : Bool)
+    → decide k s l mine taken filled ≡ decide k u l mine taken filled
+unfolding decide decideGetInfo registerDraft registerChecks decideRegister decideSign decideDeregister decideOpenSettings
+alike getInfo s u b v l mine taken filled = rw b
+alike register s u b (i, (a, (c, (n, (t, v))))) l mine taken filled =
+    rw (b, first-alike s u attestationType t, first-alike s u challengeHash c, first-alike s u username n)
+alike sign s u b (i, (a, (c, (t, (k, (w, (h, v))))))) l mine taken filled = rw (b, h, chosen-alike s u c t l)
+alike deregister s u b (i, (a, (k, v))) l mine taken filled = rw (b, first-alike s u keyIdOrNone k)
+alike openSettings s u b v l mine taken filled = rw b
+
+-- so a call with the one command gives what it gives with the other; one that names no kind is taken for GetInfo and refused
+pub alike-call : (k : Kind) (s u : List ℕ) → broken k s ≡ broken k u → SameValues k s u → (l : Lent) (n : ℕ) (o : Option ℕ) (g : Given)
+    → kindOf s ≡ kindOf u → Option·getD (kindOf s) getInfo ≡ k
+    → outcome (record { command = s; lent = l; output = n; tableOutput = o }) g
+    ≡ outcome (record { command = u; lent = l; output = n; tableOutput = o }) g
+unfolding outcome refusals perform
+alike-call k s u b v l n o g e f = rw (← e, f, alike k s u b v)
+
+-- ---- other orders
 
 -- a run of children and another order of it: neighbours with different tags are exchanged, as often as one likes
 pub data Reordered : List Tlv → List Tlv → Type 0 where
@@ -91,7 +130,7 @@ run-length zero (a ∷ b ∷ c ∷ d ∷ s) ts e =
 run-length (suc k) [] ts e = impossible cc
 run-length (suc k) (x ∷ s) ts e = omega (arith, run-length k s ts e)
 
-command-length : (s : List ℕ) (ts : List Tlv) → children s ≡ some ts → length s ≡ 4 + total ts
+pub command-length : (s : List ℕ) (ts : List Tlv) → children s ≡ some ts → length s ≡ 4 + total ts
 unfolding children
 command-length s ts e =
     split (fills s)
@@ -113,33 +152,17 @@ module _ (s u : List ℕ) {ts us : List Tlv} (a : children s ≡ some ts) (b : c
   unfolding fieldsIn
   fields-reordered f = rw (a, b) (values-reordered f r)
 
-  field-reordered : (f : Field) → fieldIn f s ≡ fieldIn f u
-  unfolding fieldIn
-  field-reordered f = rw (fields-reordered f)
-
-  chosen-reordered : (l : Lent) (rs : Table) → signChosen s l rs ≡ signChosen u l rs
-  unfolding signChosen signOne signDraft hasContent
-  chosen-reordered l [] = refl
-  chosen-reordered l (r ∷ []) = rw (field-reordered transactionContent, field-reordered challengeHash)
-  chosen-reordered l (r ∷ q ∷ rs) = refl
-
   -- and what is decided is the same, whatever is lent and whatever the table
   pub any-order : (k : Kind) (l : Lent) (mine : Table) (taken filled : Bool) → decide k s l mine taken filled ≡ decide k u l mine taken filled
-  unfolding decide decideGetInfo registerDraft registerChecks decideRegister decideSign decideDeregister decideOpenSettings
-  any-order getInfo l mine taken filled = rw (broken-reordered getInfo)
-  any-order register l mine taken filled =
-      rw (broken-reordered register, field-reordered attestationType, field-reordered challengeHash, field-reordered username)
-  any-order sign l mine taken filled =
-      rw (broken-reordered sign, fields-reordered keyHandle, chosen-reordered l)
-  any-order deregister l mine taken filled = rw (broken-reordered deregister, field-reordered keyIdOrNone)
-  any-order openSettings l mine taken filled = rw (broken-reordered openSettings)
+  any-order k = alike k s u (broken-reordered k) (each-of _ (λ f. fields-reordered (f .field)) (fieldsOf k))
 
   -- so a call with the one command gives what it gives with the other
   pub any-order-call : (l : Lent) (n : ℕ) (o : Option ℕ) (g : Given) → kindOf s ≡ kindOf u
       → outcome (record { command = s; lent = l; output = n; tableOutput = o }) g
       ≡ outcome (record { command = u; lent = l; output = n; tableOutput = o }) g
-  unfolding outcome refusals perform
-  any-order-call l n o g e = rw (e, any-order)
+  any-order-call l n o g e =
+      let k : Kind = Option·getD (kindOf s) getInfo in
+      alike-call k s u (broken-reordered k) (each-of _ (λ f. fields-reordered (f .field)) (fieldsOf k)) l n o g e refl
 
 -- ---- commands made of such children
 

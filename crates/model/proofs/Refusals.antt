@@ -61,7 +61,7 @@ pub record Over (s before after : List ℕ) : Type 0 where
   pub front : take (length s) after ≡ s
   pub rest : drop (length s) after ≡ drop (length s) before
 
-is-over : (s before : List ℕ) → length s ≤ length before → Over s before (over s before)
+pub is-over : (s before : List ℕ) → length s ≤ length before → Over s before (over s before)
 is-over s before h =
     record {
       size = simp (length-append, length-drop) (omega arith);

@@ -13,6 +13,7 @@ use Rattle.model.specs.Tlv.{Bytes, num, le, Tlv, tlv, bytes, header, Fie
 use Rattle.model.specs.Layouts.{Layout, end, field, group, size}
 use Rattle.model.specs.Records.{Table, tableOk}
 use Rattle.model.specs.Commands.{Lent, Call, value, gave, Effect, Answer, lentOk, leastOutput, judge, tableOf, refusals, perform, outcome}
+use Rattle.model.specs.Writer.{command}
 use Rattle.model.proofs.Basics.{both}
 use Rattle.model.proofs.Numbers.{num-le}
 use Rattle.model.proofs.Tlvs.{Sized, Held, length-bytes, tlvs-bytes, bytes-run}
@@ -48,9 +49,6 @@ byte = zeros 1
 
 abbrev pub child : Field → List ℕ → Tlv
 child f v = tlv (tagOf f) v
-
-abbrev pub command : Kind → List Tlv → List ℕ
-command k ts = bytes (tlv (commandTag k) (bytes ts) ∷ [])
 
 abbrev pub calling : Kind → List Tlv → Lent → Call
 calling k ts l = record { command = command k ts; lent = l; output = leastOutput; tableOutput = none }
@@ -137,6 +135,9 @@ unfolding bytes
 length-total [] = refl
 length-total (t ∷ ts) = rw (length-bytes, length-total ts)
 
+pub length-command : (k : Kind) (ts : List Tlv) → length (command k ts) ≡ 4 + total ts
+length-command k ts = simp (length-total) (omega arith)
+
 module _ (k : Kind) (ts : List Tlv) (z : Sized ts) (m : 4 + total ts ≤ maxCommand) where
   pub children-command : children (command k ts) ≡ some ts
   unfolding children bytes le
@@ -148,7 +149,7 @@ module _ (k : Kind) (ts : List Tlv) (z : Sized ts) (m : 4 + total ts ≤ maxComm
   pub not-broken : childrenOk (fieldsOf k) ts ≡ true → broken k (command k ts) ≡ false
   unfolding broken
   not-broken e =
-      let n : length (command k ts) ≤ maxCommand = simp (length-total) (omega arith) in
+      let n : length (command k ts) ≤ maxCommand = rw (length-command k ts) m in
       rw (le-leb _ _ n, children-command, e)
 
   pub fields-command : (f : Field) → fieldsIn f (command k ts) ≡ valuesOf f ts

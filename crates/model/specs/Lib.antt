@@ -11,6 +11,7 @@ pub mod Tlv
 pub mod Layouts
 pub mod Records
 pub mod Commands
+pub mod Writer
 pub mod Complete
 pub mod Reader
 pub mod Traces

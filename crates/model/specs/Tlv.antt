@@ -265,10 +265,12 @@ childOk c (some f) = fits (f .field) (c .value)
 abbrev pub valuesOf : Field → List Tlv → List (List ℕ)
 valuesOf f ts = map (λ c. c .value) (select (λ c. eqb (c .tag) (tagOf f)) ts)
 
+-- so many are no fewer than must be given, and no more than may be
+abbrev pub timesAllowed : Listed → ℕ → Bool
+timesAllowed f n = leb (f .least) n && leb n (f .most)
+
 abbrev pub timesOk : List Tlv → Listed → Bool
-timesOk ts f =
-    let n = length (valuesOf (f .field) ts) in
-    leb (f .least) n && leb n (f .most)
+timesOk ts f = timesAllowed f (length (valuesOf (f .field) ts))
 
 -- each child is allowed, and each listed one is given as often as it must and may be
 unfoldable pub childrenOk : List Listed → List Tlv → Bool

@@ -6,7 +6,7 @@ use tlv::writer::put_bytes;
 ghost use Prim.Native.Nat.{_<_};
 
 // Arguments lie in slots of SIZE bytes: the length of one in two bytes, then at most MOST bytes.
-pub const SLOTS: usize = 23;
+pub const SLOTS: usize = 34;
 
 pub const MOST: usize = 8448;
 
@@ -58,6 +58,29 @@ pub const READ: usize = 21;
 
 pub const SPOILT: usize = 22;
 
+// Of the writers of commands, which also have KIND, TYPE, KEY_ID and RESPONSE_LENGTH.
+pub const APP_ID: usize = 23;
+
+pub const APP_ID_GIVEN: usize = 24;
+
+pub const CHALLENGE: usize = 25;
+
+pub const USERNAME: usize = 26;
+
+pub const CONTENT: usize = 27;
+
+pub const CONTENT_GIVEN: usize = 28;
+
+pub const ACCESS_TOKEN: usize = 29;
+
+pub const VERIFY_TOKEN: usize = 30;
+
+pub const VERIFY_TOKEN_GIVEN: usize = 31;
+
+pub const HANDLES: usize = 32;
+
+pub const HANDLE_SIZES: usize = 33;
+
 // The slot that a letter sets. One that starts a comment has none: there is no slot of this number, so nothing is set.
 pub fn slot_of(letter: u8) -> usize {
     match letter {
@@ -84,6 +107,17 @@ pub fn slot_of(letter: u8) -> usize {
         b'e' => CERTIFICATE,
         b'r' => READ,
         b'b' => SPOILT,
+        b'A' => APP_ID,
+        b'B' => APP_ID_GIVEN,
+        b'C' => CHALLENGE,
+        b'U' => USERNAME,
+        b'T' => CONTENT,
+        b'S' => CONTENT_GIVEN,
+        b'K' => ACCESS_TOKEN,
+        b'V' => VERIFY_TOKEN,
+        b'W' => VERIFY_TOKEN_GIVEN,
+        b'H' => HANDLES,
+        b'L' => HANDLE_SIZES,
         _ => SLOTS,
     }
 }

@@ -1,4 +1,4 @@
--- What the entries of completion and reader return, from what the functions below them give.
+-- What the entries of the reader return, from what the functions below them give.
 -- Assumes nothing.
 use mathlib.Core.Path.{_≡_, ap, _∙_}
 use mathlib.Core.Bool.{true, false}
@@ -19,40 +19,7 @@ use Rattle.response_reader.specs.Readings.{Left, left, readingOf}
 use Rattle.response_reader.specs.declared.readings.Reading.{Reading}
 use Rattle.response_reader.proofs.SignedLaws.{firstSigned}
 use Rattle.response_reader.proofs.ReadingLaws.{signed-inside, response-is}
-use Rattle.token.specs.Responses.{wrote, completedAs, points, pointed, ReturnedFields, getsFields, returnedFields}
-
--- ---- completion
-
--- of what it gave: the number of a refusal, or a length
-module _ (out : List ℕ) {out′ : List ℕ} (n len : ℕ) where
-  refused-as : (q : Result (List ℕ)) → ended (Refused n) out′ ≡ ends q out → wrote n len out′ ≡ completedAs q (wrote 0 len out)
-  unfolding ends completedAs
-  refused-as (refused m) e =
-      let r = ap (λ (x : Ended). x .result) e in
-      let o = ap (λ (x : Ended). x .output) e in
-      let k : n ≡ m = cc in
-      rw (k, o)
-  refused-as (gave s) e =
-      let r = ap (λ (x : Ended). x .result) e in
-      impossible cc
-
-  wrote-as : (q : Result (List ℕ)) → ended (Wrote n) out′ ≡ ends q out → wrote 0 n out′ ≡ completedAs q (wrote 0 len out)
-  unfolding ends completedAs
-  wrote-as (refused m) e =
-      let r = ap (λ (x : Ended). x .result) e in
-      impossible cc
-  wrote-as (gave s) e =
-      let r = ap (λ (x : Ended). x .result) e in
-      let o = ap (λ (x : Ended). x .output) e in
-      let k : n ≡ length s = cc in
-      rw (k, o)
-
-  module _ (q : Result (List ℕ)) {done : Written} (e : ended done out′ ≡ ends q out) where
-    pub complete-refused : done ≡ Refused n → wrote n len out′ ≡ completedAs q (wrote 0 len out)
-    complete-refused d = refused-as q (rw d at e)
-
-    pub complete-wrote : done ≡ Wrote n → wrote 0 n out′ ≡ completedAs q (wrote 0 len out)
-    complete-wrote d = wrote-as q (rw d at e)
+use Rattle.token.specs.Responses.{points, pointed, ReturnedFields, getsFields, returnedFields}
 
 -- ---- the signed structure
 

@@ -28,7 +28,8 @@ use Rattle.model.proofs.Exactness.{draft-not-response}
 use Rattle.model.proofs.ReadBack.{ReadBack, saidStatus, CommandReadBack, command-read-back, CompletionReadBack, completion-read-back, DraftReadBack, draft-read-back}
 use Rattle.response_reader.specs.Readings.{column}
 use Rattle.token.specs.Returned.{Returned, gets, answerNumber, returned}
-use Rattle.token.specs.Responses.{ReturnedCompletion, wrote, completedAs, ReturnedPart, pointed, ReturnedFields, returnedFields}
+use Rattle.token.specs.Written.{ReturnedBytes, wrote, returnedBytes}
+use Rattle.token.specs.Responses.{ReturnedPart, pointed, ReturnedFields, returnedFields}
 
 -- ---- what the reader's two entries gave
 
@@ -106,30 +107,30 @@ one-of [] x h f g = g refl
 one-of (c ∷ cs) x h f g =
     split (c .fails) (λ e. f (c .says) (h .0) (rw e)) (λ e. one-of cs x (h .1) (λ n k p. f n k (rw e p)) (λ p. g (rw e p)))
 
-gave-of : (c : Completion) (b w : ReturnedCompletion) → w ≡ completedAs (complete c) b → w .code ≡ 0
-    → complete c ≡ gave (take (w .responseLength) (w .response))
-unfolding completedAs complete
+gave-of : (c : Completion) (b w : ReturnedBytes) → w ≡ returnedBytes (complete c) b → w .code ≡ 0
+    → complete c ≡ gave (take (w .size) (w .output))
+unfolding returnedBytes complete
 gave-of c b w p z =
     one-of _ (completed c) (omega arith, (omega arith, (omega arith, tt)))
-    (λ n h e. let q : w .code ≡ n = rw e at (ap (λ (x : ReturnedCompletion). x .code) p) in absurd (omega arith))
+    (λ n h e. let q : w .code ≡ n = rw e at (ap (λ (x : ReturnedBytes). x .code) p) in absurd (omega arith))
     (λ e.
-    let n : w .responseLength ≡ length (completed c) = rw e at (ap (λ (x : ReturnedCompletion). x .responseLength) p) in
-    let o : w .response ≡ over (completed c) (b .response) = rw e at (ap (λ (x : ReturnedCompletion). x .response) p) in
-    e ∙ ap gave (sym (front (completed c) (b .response) n o)))
+    let n : w .size ≡ length (completed c) = rw e at (ap (λ (x : ReturnedBytes). x .size) p) in
+    let o : w .output ≡ over (completed c) (b .output) = rw e at (ap (λ (x : ReturnedBytes). x .output) p) in
+    e ∙ ap gave (sym (front (completed c) (b .output) n o)))
 
 -- ---- and that is read back
 
 -- whatever layout and values the draft has
 pub completion-reads-back : (c : Completion) (m : Layout) (vs : List (List ℕ)) → WrittenBy (draftsOf (c .kind)) m vs (c .draft)
-    → (b w : ReturnedCompletion) (p₀ p : ReturnedPart) (l₀ l : ReturnedFields)
-    → w ≡ completedAs (complete c) b → w .code ≡ 0
-    → p ≡ pointed (readResponse (take (w .responseLength) (w .response))) p₀
-    → l ≡ returnedFields (readResponse (take (w .responseLength) (w .response))) l₀
-    → ReadsBack c m vs (take (w .responseLength) (w .response)) p l
+    → (b w : ReturnedBytes) (p₀ p : ReturnedPart) (l₀ l : ReturnedFields)
+    → w ≡ returnedBytes (complete c) b → w .code ≡ 0
+    → p ≡ pointed (readResponse (take (w .size) (w .output))) p₀
+    → l ≡ returnedFields (readResponse (take (w .size) (w .output))) l₀
+    → ReadsBack c m vs (take (w .size) (w .output)) p l
 completion-reads-back c m vs t b w p₀ p l₀ l e z = reads-back (completion-read-back c _ m vs t (gave-of c b w e z)) p₀ l₀
 
 -- and it has some: what a completion takes is the writing of one of its kind's layouts
-pub completed-draft : (c : Completion) (b w : ReturnedCompletion) → Bytes (c .draft) → w ≡ completedAs (complete c) b → w .code ≡ 0
+pub completed-draft : (c : Completion) (b w : ReturnedBytes) → Bytes (c .draft) → w ≡ returnedBytes (complete c) b → w .code ≡ 0
     → (m : Layout) × (vs : List (List ℕ)) × WrittenBy (draftsOf (c .kind)) m vs (c .draft)
 unfolding isDraft
 completed-draft c b w held e z =
@@ -228,15 +229,15 @@ pub record DraftReadsBack (c : Call) (g : Given) (x : Completion) (s : List ℕ)
   pub said : SaidDraft (c .command) (c .lent) (picked c table) (kind c) layout values
   pub back : ReadsBack x layout values s p l
 
-pub draft-reads-back : (c : Call) (g : Given) (x : Completion) (r₀ r : Returned) (b w : ReturnedCompletion) (p₀ p : ReturnedPart) (l₀ l : ReturnedFields)
+pub draft-reads-back : (c : Call) (g : Given) (x : Completion) (r₀ r : Returned) (b w : ReturnedBytes) (p₀ p : ReturnedPart) (l₀ l : ReturnedFields)
     → r ≡ returned (outcome c g) r₀ → r .code ≡ 0 → r .answer ≡ 1 → x .draft ≡ take (r .responseLength) (r .response)
-    → w ≡ completedAs (complete x) b → w .code ≡ 0
-    → p ≡ pointed (readResponse (take (w .responseLength) (w .response))) p₀
-    → l ≡ returnedFields (readResponse (take (w .responseLength) (w .response))) l₀
-    → DraftReadsBack c g x (take (w .responseLength) (w .response)) p l
+    → w ≡ returnedBytes (complete x) b → w .code ≡ 0
+    → p ≡ pointed (readResponse (take (w .size) (w .output))) p₀
+    → l ≡ returnedFields (readResponse (take (w .size) (w .output))) l₀
+    → DraftReadsBack c g x (take (w .size) (w .output)) p l
 draft-reads-back c g x r₀ r b w p₀ p l₀ l er zr ar ex e z ep el =
     let a = answered c g r₀ r er zr in
-    let k : DraftReadBack c g x (take (w .responseLength) (w .response)) =
+    let k : DraftReadBack c g x (take (w .size) (w .output)) =
     draft-read-back c g (a .effect) x _ (a .gives) (is-draft a ar ∙ ap draft (sym ex)) (gave-of x b w e z) in
     record {
       table = k .table;
@@ -256,11 +257,11 @@ unfolding returned
 command-refused (refused n) r₀ r p z = rw p
 command-refused (gave e) r₀ r p z = absurd (z (ap (λ (x : Returned). x .code) p))
 
-pub completion-refused : (o : Result (List ℕ)) (b w : ReturnedCompletion) → w ≡ completedAs o b → (w .code ≡ 0 → ⊥)
-    → w ≡ wrote (w .code) (b .responseLength) (b .response)
-unfolding completedAs
+pub completion-refused : (o : Result (List ℕ)) (b w : ReturnedBytes) → w ≡ returnedBytes o b → (w .code ≡ 0 → ⊥)
+    → w ≡ wrote (w .code) (b .size) (b .output)
+unfolding returnedBytes
 completion-refused (refused n) b w p z = rw p
-completion-refused (gave s) b w p z = absurd (z (ap (λ (x : ReturnedCompletion). x .code) p))
+completion-refused (gave s) b w p z = absurd (z (ap (λ (x : ReturnedBytes). x .code) p))
 
 -- a call's 0 is met where no refusal has a reason
 pub command-gives : (c : Call) (g : Given) (r₀ r : Returned) → r ≡ returned (outcome c g) r₀ → leastOutput ≤ c .output
@@ -285,7 +286,7 @@ module _ (c : Call) (g : Given) (r₀ r : Returned) (er : r ≡ returned (outcom
   unfolding pointed returnedFields
   draft-not-read p₀ p l₀ l ar ep el = rw (ep, el, draft-not-response _ _ (draft-kind ar)) (refl, refl)
 
-  module _ (x : Completion) (ex : x .draft ≡ take (r .responseLength) (r .response)) (b w : ReturnedCompletion) (e : w ≡ completedAs (complete x) b) where
+  module _ (x : Completion) (ex : x .draft ≡ take (r .responseLength) (r .response)) (b w : ReturnedBytes) (e : w ≡ returnedBytes (complete x) b) where
     -- the answer 1 is met wherever a completion gives 0: no response can be completed
     pub completed-was-draft : w .code ≡ 0 → r .answer ≡ 1
     completed-was-draft z =
@@ -297,5 +298,5 @@ module _ (c : Call) (g : Given) (r₀ r : Returned) (er : r ≡ returned (outcom
 
     -- a completion's 0 is met where the kind is the command's and all else lent to it is in order
     pub draft-completes : r .answer ≡ 1 → x .kind ≡ completionKind (kind c) → leastOutput ≤ x .output → completionOk x ≡ true → w .code ≡ 0
-    unfolding completedAs
+    unfolding returnedBytes
     draft-completes ar k h o = rw (e, completes x h (rw (k, ex) (draft-kind ar)) o)

@@ -1,26 +1,10 @@
--- All that the firmware gets back from a completion and from the two calls of the reader. After a refusal nothing that it lent has changed.
+-- All that the firmware gets back from the two calls of the reader. After a refusal nothing that it lent has changed.
 use Prim.Native.Nat.{ℕ}
 use mathlib.Core.List.{List}
 use lib.ListN.{length}
 use Rattle.model.specs.Commands.{Result, refused, gave}
-use Rattle.model.specs.Complete.{outputOf}
 use Rattle.model.specs.Reader.{Reading}
 use Rattle.response_reader.specs.Readings.{column}
-
--- a completion: the refusal number, or 0; the length and the output that it lent
-pub record ReturnedCompletion : Type 0 where
-  pub code : ℕ
-  pub responseLength : ℕ
-  pub response : List ℕ
-
--- the refusal number, or 0, the length and the output of a completion, as one
-abbrev pub wrote : ℕ → ℕ → List ℕ → ReturnedCompletion
-wrote c n s = record { code = c; responseLength = n; response = s }
-
--- what the firmware gets from a completion with this result that was lent these
-unfoldable pub completedAs : Result (List ℕ) → ReturnedCompletion → ReturnedCompletion
-completedAs (refused n) b = wrote n (b .responseLength) (b .response)
-completedAs (gave s) b = wrote 0 (length s) (outputOf (gave s) (b .response))
 
 -- the signed structure: the refusal number, or 0; its place and its length
 pub record ReturnedPart : Type 0 where

@@ -1,5 +1,7 @@
 // The exported entries: numbers and byte stretches only.
 pub mod responses;
+mod told;
+pub mod writers;
 
 use authenticator::call::call;
 use authenticator::outcome::Outcome;

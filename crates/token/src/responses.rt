@@ -1,6 +1,6 @@
+use crate::told::tell;
 use completion::complete;
 use fields::refusals::NOT_WRITTEN;
-use fields::refusals::Written;
 use response_reader::readings::MOST_FIELDS;
 use response_reader::readings::read_fields;
 use response_reader::shapes::Shape;
@@ -10,7 +10,8 @@ ghost use lib.ListN.{length};
 ghost use Rattle.model.specs.Complete.{complete};
 ghost use Rattle.model.specs.Reader.{readResponse};
 ghost use Rattle.completion.specs.Completions.{completion};
-ghost use Rattle.token.specs.Responses.{wrote, completedAs, points, pointed, getsFields, returnedFields};
+ghost use Rattle.token.specs.Written.{wrote, returnedBytes};
+ghost use Rattle.token.specs.Responses.{points, pointed, getsFields, returnedFields};
 
 // Completes a draft: 0 or the number of a refusal, and after 0 the response and its length.
 #[no_mangle]
@@ -25,7 +26,7 @@ pub extern "C" fn uaf_complete(
 ) -> u32
     ensures { λ r. ⌜
         wrote r (now («response_len» .exit)) (now (response .exit))
-        ≡ completedAs
+        ≡ returnedBytes
         (complete
         (completion kind (now (draft .entry)) attestation (now (signature .entry)) (now (certificate .entry))
         (length (now (response .entry)))))
@@ -39,13 +40,7 @@ pub extern "C" fn uaf_complete(
         certificate,
         response,
     );
-    match done {
-        Written::Refused(n) => n,
-        Written::Wrote(n) => {
-            *response_len = n;
-            0
-        }
-    }
+    tell(done, response_len)
 }
 
 // The reader's first call: 0 or the number of a refusal, and after 0 the place and the length of the signed structure.

@@ -12,7 +12,11 @@ import sys
 import tempfile
 
 SIDES = {"token": "uaf_", "peer": "peer_"}
-ENTRIES = ("command", "complete", "signed_part", "read_fields")
+WRITERS = ("write_get_info", "write_register", "write_sign", "write_deregister", "write_open_settings")
+ENTRIES = ("command", "complete", "signed_part", "read_fields", *WRITERS)
+# The kinds of entries, as the stack and the worst ratio are told of each.
+COMMAND, READER, WRITER = "a command", "completion and reader", "a writer"
+GROUPS = (COMMAND, READER, WRITER)
 # How the name of a case ends that is a command on a table, and what heads the column of that kind.
 KINDS = {"": "random, 12", ", long names": "random, 128", ", alike": "alike, 12", ", alike, long names": "alike, 128"}
 TEXTS = ("latin", "cyrillic", "kana", "mixed")
@@ -51,9 +55,12 @@ class Row:
         self.floor = times["floor ns"]
         self.instructions = dict(zip(SIDES, counts))
         self.on_table = ON_TABLE.match(self.case)
+        self.group = self.group_of()
 
-    def is_command(self):
-        return self.on_table is not None or self.case.startswith(("refused:", "Register:", CHOSEN))
+    def group_of(self):
+        if self.on_table or self.case.startswith(("refused:", "Register:", CHOSEN)):
+            return COMMAND
+        return WRITER if self.case.startswith("write:") else READER
 
     def figures(self):
         floor = nanoseconds(self.floor) if self.floor else "–"
@@ -116,7 +123,7 @@ def dearer(rows):
     cells = []
     for one_said, other_said in (("alike", "random"), *((text, "ASCII") for text in TEXTS)):
         mark = f", {one_said}"
-        pairs = [(row, by_name[row.case.replace(mark, "")]) for row in rows if mark in row.case]
+        pairs = [(row, by_name[row.case.replace(mark, "")]) for row in rows if mark in row.case and row.group != WRITER]
         for side in SIDES:
             for unit in ("ns", "instructions"):
                 most, case = max((getattr(one, unit)[side] / getattr(other, unit)[side], one.case) for one, other in pairs)
@@ -127,10 +134,19 @@ def dearer(rows):
 def stack(bench, rows):
     depths = list(zip(rows, table(bench, "stack")))
     cells = []
-    for name, is_meant in (("a command, at most", True), ("completion and reader, at most", False)):
-        meant = [depth for row, depth in depths if row.is_command() == is_meant]
-        cells.append([name, *(f"{max(int(depth[f'{side} bytes']) for depth in meant):,}" for side in SIDES)])
+    for group in GROUPS:
+        meant = [depth for row, depth in depths if row.group == group]
+        cells.append([f"{group}, at most", *(f"{max(int(depth[f'{side} bytes']) for depth in meant):,}" for side in SIDES)])
     return markdown(["stack, bytes", *SIDES], cells)
+
+
+def worst_of(rows):
+    return max(rows, key=lambda row: row.ratio)
+
+
+def worst_by_group(rows):
+    worst = [worst_of(row for row in rows if row.group == group) for group in GROUPS]
+    return markdown(["worst ratio", "token / peer", "case"], [[row.group, f"{row.ratio:.2f}", row.case] for row in worst])
 
 
 def machine():
@@ -156,7 +172,11 @@ def report(bench, archive, rows):
     yield ""
     yield "A command on KeyIDs and mixed tokens of one sum, a Register whose name is cut, refused commands, completion and reader:"
     yield ""
-    yield from listed([row for row in rows if not row.on_table])
+    yield from listed([row for row in rows if not row.on_table and row.group != WRITER])
+    yield ""
+    yield "The writers of commands:"
+    yield ""
+    yield from listed([row for row in rows if row.group == WRITER])
     yield ""
     yield from dearer(rows)
     yield ""
@@ -164,7 +184,10 @@ def report(bench, archive, rows):
     yield ""
     yield f"Text of the archive: {text_size(archive):,} bytes."
     yield ""
-    worst = max((row for row in rows if row.case != CHOSEN), key=lambda row: row.ratio)
+    counted = [row for row in rows if row.case != CHOSEN]
+    yield from worst_by_group(counted)
+    yield ""
+    worst = worst_of(counted)
     [chosen] = [row for row in rows if row.case == CHOSEN]
     yield f"Worst ratio: {worst.ratio:.2f} ({worst.case}); of KeyIDs and mixed tokens chosen to have one sum: {chosen.ratio:.2f}."
 

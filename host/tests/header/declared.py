@@ -1,8 +1,9 @@
 """The header's declarations and constants against the source's: declared.py HEADER CRATES
 
 Each exported function of the Rattle source must be declared in the header, and no other, with the parameters that its own stand for, in their
-order and with their names: a slice is a pointer and a size, a number lent to be written a pointer. The header's lists of tags and of statuses
-must have the names and numbers of the source's, and no others; its refusals and those of its limits that the source names, the same numbers."""
+order and with their names: a slice of bytes is a pointer and a size, one of lengths a pointer and a count, a number lent to be written a pointer.
+The header's lists of tags and of statuses must have the names and numbers of the source's, and no others; its refusals and those of its limits that
+the source names, the same numbers."""
 
 import pathlib
 import re
@@ -11,6 +12,7 @@ import sys
 # The source's constants, and what they are called in the header.
 REFUSALS = {
     "SHORT_OUTPUT": "OUTPUT", "BROKEN_TABLE": "TABLE", "NO_COMMAND": "COMMAND", "WRONG_LENT": "LENT", "NOT_WRITTEN": "BYTES",
+    "BAD_FIELD": "FIELD",
 }
 LIMITS = {
     "fields/src/lib.rt": {"MAX_COMMAND": "MOST_COMMAND", "LEAST_OUTPUT": "LEAST_RESPONSE"},
@@ -27,6 +29,8 @@ def in_c(name, kind):
         return [f"const uint8_t *{name}", f"size_t {name}_size"]
     if kind == "&mut [u8]":
         return [f"uint8_t *{name}", f"size_t {name}_size"]
+    if kind == "&[usize]" and name.endswith("_sizes"):
+        return [f"const size_t *{name}", f"size_t {name.removesuffix('_sizes')}_count"]
     if rows := re.fullmatch(r"&mut \[usize; (\w+)\]", kind):
         return [f"size_t {name}[UAF_{rows[1]}]"]
     if number := re.fullmatch(r"&mut (\w+)", kind):

@@ -609,6 +609,546 @@ static void reads(void)
         "no bytes at all");
 }
 
+/* ---- the writers of commands */
+
+/* The stretches that writers take. Beside each stands whether it is given, which those that are mandatory have no parameter for. */
+enum { OF_APP_ID, OF_CHALLENGE, OF_NAME, OF_CONTENT, OF_TOKEN, OF_VERIFY, OF_KEY_ID, OF_HANDLES, PARTS };
+
+struct fields {
+    struct {
+        uint32_t given;
+        const uint8_t *at;
+        size_t size;
+    } part[PARTS];
+    uint32_t attestation;
+    const size_t *sizes;
+    size_t count;
+};
+
+/* What the parts are made of. They begin at different places, so each has other bytes, and there is enough for a length that is over 16 bits. */
+static uint8_t pool[PARTS * 100 + 65536 + 600], name_letters[65536 + 600];
+/* Nine handles of the right length. */
+static const size_t right_sizes[UAF_MOST_HANDLES + 1] = {32, 32, 32, 32, 32, 32, 32, 32, 32};
+
+static uint8_t pooled(size_t i)
+{
+    return (uint8_t)(i * 131 + (i >> 8) * 7 + 3);
+}
+
+static void fill_pool(void)
+{
+    for (size_t i = 0; i < sizeof pool; i++)
+        pool[i] = pooled(i);
+    memset(name_letters, 'a', sizeof name_letters);
+}
+
+static int pool_is_as_lent(void)
+{
+    for (size_t i = 0; i < sizeof pool; i++)
+        if (pool[i] != pooled(i))
+            return 0;
+    for (size_t i = 0; i < sizeof name_letters; i++)
+        if (name_letters[i] != 'a')
+            return 0;
+    return 1;
+}
+
+/* A part of this size, given; NULL where it is empty. */
+static void give(struct fields *f, size_t which, size_t size)
+{
+    f->part[which].given = UAF_GIVEN;
+    f->part[which].size = size;
+    f->part[which].at = size == 0 ? NULL : which == OF_NAME ? name_letters : pool + which * 100;
+}
+
+static void take_away(struct fields *f, size_t which)
+{
+    f->part[which].given = UAF_NOT_GIVEN;
+    f->part[which].at = NULL;
+    f->part[which].size = 0;
+}
+
+/* The handles run together, so many in all, with these lengths. */
+static void give_handles(struct fields *f, const size_t *sizes, size_t count, size_t in_all)
+{
+    give(f, OF_HANDLES, in_all);
+    f->sizes = count == 0 ? NULL : sizes;
+    f->count = count;
+}
+
+/* All that is mandatory, as short as it can be but for the name, and nothing else. */
+static struct fields least_fields(void)
+{
+    struct fields f;
+    memset(&f, 0, sizeof f);
+    give(&f, OF_CHALLENGE, 1);
+    give(&f, OF_NAME, 3);
+    give(&f, OF_TOKEN, 1);
+    give(&f, OF_KEY_ID, 0);
+    f.attestation = UAF_BASIC_FULL;
+    return f;
+}
+
+/* The output, with a byte in front of it and one behind it. */
+static uint8_t written[1 + UAF_MOST_COMMAND + 1];
+static uint8_t *const output = written + 1;
+static size_t written_length;
+
+static int nothing_written(void)
+{
+    return untouched(written, 0, sizeof written) && written_length == 80;
+}
+
+#define PART(which) f->part[which].at, f->part[which].size
+#define OPTIONAL(which) f->part[which].given, PART(which)
+
+static uint32_t write_into(uint8_t *command, size_t room, unsigned tag, const struct fields *f)
+{
+    memset(written, UNTOUCHED, sizeof written);
+    written_length = 80;
+    switch (tag) {
+        case 0x3401: return uaf_write_get_info(command, room, &written_length);
+        case 0x3402:
+            return uaf_write_register(
+                OPTIONAL(OF_APP_ID), PART(OF_CHALLENGE), PART(OF_NAME), f->attestation, PART(OF_TOKEN), OPTIONAL(OF_VERIFY), command, room,
+                &written_length);
+        case 0x3403:
+            return uaf_write_sign(
+                OPTIONAL(OF_APP_ID), PART(OF_CHALLENGE), OPTIONAL(OF_CONTENT), PART(OF_TOKEN), OPTIONAL(OF_VERIFY), PART(OF_HANDLES), f->sizes,
+                f->count, command, room, &written_length);
+        case 0x3404: return uaf_write_deregister(OPTIONAL(OF_APP_ID), PART(OF_KEY_ID), PART(OF_TOKEN), command, room, &written_length);
+        default: return uaf_write_open_settings(command, room, &written_length);
+    }
+}
+
+static void add_part(struct bytes *children, unsigned tag, const struct fields *f, size_t which)
+{
+    if (f->part[which].given)
+        tlv(children, tag, PART(which));
+}
+
+/* The command by document 001's tables, of handles that have the right length. */
+static void by_tables(struct bytes *command, unsigned tag, const struct fields *f)
+{
+    const uint8_t type[2] = {(uint8_t)f->attestation, (uint8_t)(f->attestation >> 8)};
+    struct bytes children = {{0}, 0};
+    if (tag != 0x3401)
+        tlv(&children, 0x280D, &zero, 1);
+    if (tag == 0x3402) {
+        add_part(&children, 0x2804, f, OF_APP_ID);
+        add_part(&children, 0x2E0A, f, OF_CHALLENGE);
+        add_part(&children, 0x2806, f, OF_NAME);
+        tlv(&children, 0x2807, type, 2);
+        add_part(&children, 0x2805, f, OF_TOKEN);
+        add_part(&children, 0x2803, f, OF_VERIFY);
+    } else if (tag == 0x3403) {
+        add_part(&children, 0x2804, f, OF_APP_ID);
+        add_part(&children, 0x2E0A, f, OF_CHALLENGE);
+        add_part(&children, 0x2810, f, OF_CONTENT);
+        add_part(&children, 0x2805, f, OF_TOKEN);
+        add_part(&children, 0x2803, f, OF_VERIFY);
+        for (size_t i = 0; i < f->count; i++)
+            tlv(&children, 0x2801, f->part[OF_HANDLES].at + 32 * i, 32);
+    } else if (tag == 0x3404) {
+        add_part(&children, 0x2804, f, OF_APP_ID);
+        add_part(&children, 0x2E09, f, OF_KEY_ID);
+        add_part(&children, 0x2805, f, OF_TOKEN);
+    }
+    command_of(command, tag, &children);
+}
+
+/* Whether a call obeys the command: it gives no refusal and no status 0x08. */
+static int is_obeyed(const struct bytes *command)
+{
+    struct bytes table = {{0}, 0};
+    stored_records(&table, 2);
+    return call(command, UAF_VERIFIED, UAF_SHOWN_CONFIRMED, &table) == 0 && (answer == UAF_DRAFT || response[8] != UAF_STATUS_PARAMS_INVALID);
+}
+
+/* The fields are written as these bytes, also where the output is just long enough. Where it is a byte shorter, or not there, the refusal is 1. */
+static void is_written_as(const struct bytes *expected, unsigned tag, const struct fields *f, const char *what)
+{
+    const size_t exactly = expected->length;
+    const size_t rooms[] = {exactly, UAF_MOST_COMMAND};
+    for (size_t i = 0; i < 2; i++) {
+        expect(write_into(output, rooms[i], tag, f) == 0 && same(expected, output, written_length), what);
+        expect(untouched(written, 0, 1) && untouched(output, written_length, UAF_MOST_COMMAND + 1), "a writer wrote elsewhere");
+    }
+    expect(write_into(output, exactly - 1, tag, f) == UAF_REFUSED_OUTPUT && nothing_written(), "a writer's output that is one byte short");
+    expect(write_into(NULL, 0, tag, f) == UAF_REFUSED_OUTPUT && nothing_written(), "a writer's output that is empty");
+    expect(is_obeyed(expected), "a written command that breaks a rule");
+    expect(pool_is_as_lent(), "a writer changed a field");
+}
+
+static void is_written(unsigned tag, const struct fields *f, const char *what)
+{
+    struct bytes expected = {{0}, 0};
+    by_tables(&expected, tag, f);
+    is_written_as(&expected, tag, f, what);
+}
+
+/* The fields are refused with 6, also where there is no output: 6 comes before 1. */
+static void is_unwritten(unsigned tag, const struct fields *f, const char *what)
+{
+    expect(write_into(output, UAF_MOST_COMMAND, tag, f) == UAF_REFUSED_FIELD && nothing_written(), what);
+    expect(write_into(NULL, 0, tag, f) == UAF_REFUSED_FIELD && nothing_written(), what);
+    expect(pool_is_as_lent(), "a refusing writer changed a field");
+}
+
+/* Each command as bytes. Those of GetInfo, Open settings, Deregister and Sign with the fewest fields are document 01's P1, P6, P7 and P8. */
+static void writes_these_bytes(void)
+{
+#define EIGHT(byte) byte, byte, byte, byte, byte, byte, byte, byte
+#define THIRTY_TWO(byte) EIGHT(byte), EIGHT(byte), EIGHT(byte), EIGHT(byte)
+    static const uint8_t app_id[] = {'a', '.', 'b'}, two[] = {0xC1, 0xC2}, token[] = {0xD1, 0xD2}, verify[] = {0xE1}, byte[] = {0xAA};
+    static const uint8_t content[] = {'3', '.', '2', '0'}, handles[] = {THIRTY_TWO(0x11), THIRTY_TWO(0x22)}, key[] = {THIRTY_TWO(0x33)};
+    static const uint8_t info[] = {0x01, 0x34, 0x00, 0x00};
+    static const uint8_t settings[] = {0x06, 0x34, 0x05, 0x00, 0x0D, 0x28, 0x01, 0x00, 0x00};
+    static const uint8_t removing_all[] = {
+        0x04, 0x34, 0x0E, 0x00, 0x0D, 0x28, 0x01, 0x00, 0x00, 0x09, 0x2E, 0x00, 0x00, 0x05, 0x28, 0x01, 0x00, 0xAA};
+    static const uint8_t removing_one[] = {
+        0x04, 0x34, 0x36, 0x00, 0x0D, 0x28, 0x01, 0x00, 0x00, 0x04, 0x28, 0x03, 0x00, 'a', '.', 'b', 0x09, 0x2E, 0x20, 0x00, THIRTY_TWO(0x33),
+        0x05, 0x28, 0x02, 0x00, 0xD1, 0xD2};
+    static const uint8_t signing[] = {
+        0x03, 0x34, 0x0F, 0x00, 0x0D, 0x28, 0x01, 0x00, 0x00, 0x0A, 0x2E, 0x01, 0x00, 0xAA, 0x05, 0x28, 0x01, 0x00, 0xAA};
+    static const uint8_t signing_all[] = {
+        0x03, 0x34, 0x6D, 0x00, 0x0D, 0x28, 0x01, 0x00, 0x00, 0x04, 0x28, 0x03, 0x00, 'a', '.', 'b', 0x0A, 0x2E, 0x02, 0x00, 0xC1, 0xC2,
+        0x10, 0x28, 0x04, 0x00, '3', '.', '2', '0', 0x05, 0x28, 0x02, 0x00, 0xD1, 0xD2, 0x03, 0x28, 0x01, 0x00, 0xE1,
+        0x01, 0x28, 0x20, 0x00, THIRTY_TWO(0x11), 0x01, 0x28, 0x20, 0x00, THIRTY_TWO(0x22)};
+    static const uint8_t registering[] = {
+        0x02, 0x34, 0x1C, 0x00, 0x0D, 0x28, 0x01, 0x00, 0x00, 0x0A, 0x2E, 0x01, 0x00, 0xAA, 0x06, 0x28, 0x03, 0x00, 'A', 'n', 'n',
+        0x07, 0x28, 0x02, 0x00, 0x08, 0x3E, 0x05, 0x28, 0x01, 0x00, 0xAA};
+    static const uint8_t registering_all[] = {
+        0x02, 0x34, 0x2A, 0x00, 0x0D, 0x28, 0x01, 0x00, 0x00, 0x04, 0x28, 0x03, 0x00, 'a', '.', 'b', 0x0A, 0x2E, 0x02, 0x00, 0xC1, 0xC2,
+        0x06, 0x28, 0x03, 0x00, 'A', 'n', 'n', 0x07, 0x28, 0x02, 0x00, 0x07, 0x3E, 0x05, 0x28, 0x02, 0x00, 0xD1, 0xD2, 0x03, 0x28, 0x01, 0x00, 0xE1};
+    static const struct {
+        unsigned tag;
+        int all;
+        const uint8_t *at;
+        size_t size;
+        const char *what;
+    } rows[] = {
+        {0x3401, 0, info, sizeof info, "GetInfo as bytes"},
+        {0x3402, 0, registering, sizeof registering, "Register as bytes"},
+        {0x3402, 1, registering_all, sizeof registering_all, "Register with each field as bytes"},
+        {0x3403, 0, signing, sizeof signing, "Sign as bytes"},
+        {0x3403, 1, signing_all, sizeof signing_all, "Sign with each field as bytes"},
+        {0x3404, 0, removing_all, sizeof removing_all, "Deregister as bytes"},
+        {0x3404, 1, removing_one, sizeof removing_one, "Deregister with each field as bytes"},
+        {0x3406, 0, settings, sizeof settings, "Open settings as bytes"},
+    };
+#define SET(which, bytes_of) (give(&f, which, sizeof bytes_of), f.part[which].at = bytes_of)
+    for (size_t i = 0; i < sizeof rows / sizeof *rows; i++) {
+        struct fields f = least_fields();
+        struct bytes expected = {{0}, 0};
+        SET(OF_CHALLENGE, byte);
+        SET(OF_TOKEN, byte);
+        f.part[OF_NAME].at = (const uint8_t *)ann;
+        f.attestation = rows[i].all ? UAF_BASIC_FULL : UAF_BASIC_SURROGATE;
+        if (rows[i].all) {
+            SET(OF_APP_ID, app_id);
+            SET(OF_CHALLENGE, two);
+            SET(OF_CONTENT, content);
+            SET(OF_TOKEN, token);
+            SET(OF_VERIFY, verify);
+            SET(OF_KEY_ID, key);
+            give_handles(&f, right_sizes, 2, sizeof handles);
+            f.part[OF_HANDLES].at = handles;
+        }
+        stretch(&expected, rows[i].at, rows[i].size);
+        is_written_as(&expected, rows[i].tag, &f, rows[i].what);
+        is_written(rows[i].tag, &f, rows[i].what); /* what is expected below, against these bytes */
+    }
+#undef SET
+#undef THIRTY_TWO
+#undef EIGHT
+}
+
+/* Each field that may be left away: not given, given empty, given. An empty AppID breaks its rule. */
+static void given_or_not(void)
+{
+    for (int app_id = 0; app_id < 3; app_id++)
+        for (int content = 0; content < 3; content++)
+            for (int verify = 0; verify < 3; verify++) {
+                struct fields f = least_fields();
+                if (app_id > 0)
+                    give(&f, OF_APP_ID, app_id == 1 ? 0 : 17);
+                if (content > 0)
+                    give(&f, OF_CONTENT, content == 1 ? 0 : 9);
+                if (verify > 0)
+                    give(&f, OF_VERIFY, verify == 1 ? 0 : 5);
+                for (unsigned tag = 0x3402; tag <= 0x3404; tag++) {
+                    if (app_id == 1)
+                        is_unwritten(tag, &f, "an empty AppID");
+                    else
+                        is_written(tag, &f, "a field given, given empty or not given");
+                }
+            }
+
+    /* a field that is not given is not looked at, whatever its length */
+    static const size_t sizes[] = {0, 1, 513, 8192, 65536};
+    for (size_t i = 0; i < sizeof sizes / sizeof *sizes; i++) {
+        struct fields f = least_fields(), lent = f;
+        for (unsigned which = 0; which < PARTS; which++)
+            if (which == OF_APP_ID || which == OF_CONTENT || which == OF_VERIFY) {
+                give(&lent, which, sizes[i]);
+                lent.part[which].given = UAF_NOT_GIVEN;
+            }
+        for (unsigned tag = 0x3402; tag <= 0x3404; tag++) {
+            struct bytes expected = {{0}, 0};
+            by_tables(&expected, tag, &f);
+            is_written_as(&expected, tag, &lent, "a field that is not given and lent all the same");
+        }
+    }
+}
+
+/* Numbers that are neither UAF_GIVEN nor UAF_NOT_GIVEN, also where their low 8 or 16 bits are. */
+static void marks(void)
+{
+    static const uint32_t wrong[] = {2, 256, 257, 65536, 65537, UINT32_MAX};
+    static const struct {
+        unsigned tag;
+        size_t which;
+    } rows[] = {
+        {0x3402, OF_APP_ID}, {0x3402, OF_VERIFY}, {0x3403, OF_APP_ID}, {0x3403, OF_CONTENT}, {0x3403, OF_VERIFY}, {0x3404, OF_APP_ID}};
+    for (size_t i = 0; i < sizeof rows / sizeof *rows; i++)
+        for (size_t k = 0; k < sizeof wrong / sizeof *wrong; k++) {
+            struct fields f = least_fields();
+            give(&f, rows[i].which, k % 2 == 0 ? 5 : 0);
+            f.part[rows[i].which].given = wrong[k];
+            is_unwritten(rows[i].tag, &f, "a number that says neither given nor not given");
+        }
+}
+
+/* The least and the greatest length of each field, and the lengths next to them; a length of 16 bits more than a right one is no right one. */
+static void field_lengths(void)
+{
+    static const struct {
+        unsigned tag;
+        size_t which, least, most;
+    } rows[] = {
+        {0x3402, OF_APP_ID, 1, 512}, {0x3402, OF_CHALLENGE, 1, 32}, {0x3402, OF_NAME, 1, 128}, {0x3402, OF_TOKEN, 1, 32},
+        {0x3403, OF_APP_ID, 1, 512}, {0x3403, OF_CHALLENGE, 1, 32}, {0x3403, OF_TOKEN, 1, 32},
+        {0x3404, OF_APP_ID, 1, 512}, {0x3404, OF_TOKEN, 1, 32}, {0x3404, OF_KEY_ID, 32, 32}};
+    for (size_t i = 0; i < sizeof rows / sizeof *rows; i++) {
+        struct fields f = least_fields();
+        give(&f, rows[i].which, rows[i].least);
+        is_written(rows[i].tag, &f, "a field of its least length");
+        give(&f, rows[i].which, rows[i].most);
+        is_written(rows[i].tag, &f, "a field of its greatest length");
+        give(&f, rows[i].which, rows[i].least - 1);
+        is_unwritten(rows[i].tag, &f, "a field that is too short");
+        give(&f, rows[i].which, rows[i].most + 1);
+        is_unwritten(rows[i].tag, &f, "a field that is too long");
+        give(&f, rows[i].which, 65536 + rows[i].most);
+        is_unwritten(rows[i].tag, &f, "a field whose length has a right one in its low 16 bits");
+    }
+    struct fields f = least_fields();
+    is_written(0x3404, &f, "an empty KeyID");
+    give(&f, OF_KEY_ID, 1);
+    is_unwritten(0x3404, &f, "a KeyID of one byte");
+    give(&f, OF_KEY_ID, 65536);
+    is_unwritten(0x3404, &f, "a KeyID of 65,536 bytes");
+}
+
+static void attestation_types(void)
+{
+    static const uint32_t right[] = {0, 1, 255, 256, UAF_BASIC_FULL, UAF_BASIC_SURROGATE, 65535};
+    static const uint32_t wrong[] = {65536, 65536 + UAF_BASIC_FULL, UINT32_MAX};
+    struct bytes command = {{0}, 0}, none = {{0}, 0};
+    struct fields f = least_fields();
+    for (size_t i = 0; i < sizeof right / sizeof *right; i++) {
+        f.attestation = right[i];
+        is_written(0x3402, &f, "an attestation type");
+    }
+    by_tables(&command, 0x3402, &f);
+    expect(
+        says(&command, UAF_VERIFIED, UAF_SHOWN_CONFIRMED, &none, 0x3602, UAF_STATUS_ATTESTATION_NOT_SUPPORTED),
+        "a written attestation type that is neither of the two");
+    for (size_t i = 0; i < sizeof wrong / sizeof *wrong; i++) {
+        f.attestation = wrong[i];
+        is_unwritten(0x3402, &f, "an attestation type of more than 16 bits");
+    }
+}
+
+/* How many handles there are, how long each is, and whether their lengths make up the stretch. */
+static void key_handles(void)
+{
+    static const size_t uneven[] = {31, 33}, even[] = {32, 32}, empty[] = {0}, last_empty[] = {32, 0}, longer[] = {33}, wide[] = {65536 + 32};
+    /* these lengths add up to 32 if what is carried over is lost */
+    static const size_t round[] = {33, SIZE_MAX}, round_in_three[] = {32, SIZE_MAX - 31, 32};
+    static const struct {
+        const size_t *sizes;
+        size_t count, in_all;
+        const char *what;
+    } rows[] = {
+        {right_sizes, 9, 9 * 32, "nine handles"},
+        {uneven, 2, 64, "handles of 31 and 33 bytes"},
+        {uneven, 1, 31, "a handle of 31 bytes"},
+        {longer, 1, 33, "a handle of 33 bytes"},
+        {even, 2, 63, "lengths of more than the stretch"},
+        {even, 2, 65, "lengths of less than the stretch"},
+        {even, 1, 64, "a handle without its length"},
+        {even, 2, 32, "a length without its handle"},
+        {even, 1, 0, "a length, and no handles"},
+        {even, 0, 32, "a handle, and no lengths"},
+        {empty, 1, 0, "an empty handle"},
+        {last_empty, 2, 32, "an empty handle after another"},
+        {wide, 1, 65536 + 32, "a handle whose length has 32 in its low 16 bits"},
+        {round, 2, 32, "lengths whose sum has more than 64 bits"},
+        {round_in_three, 3, 32, "lengths whose sum has more than 64 bits"},
+    };
+    struct fields f = least_fields();
+    for (size_t count = 0; count <= UAF_MOST_HANDLES; count++) {
+        give_handles(&f, right_sizes, count, 32 * count);
+        is_written(0x3403, &f, "key handles");
+    }
+    for (size_t i = 0; i < sizeof rows / sizeof *rows; i++) {
+        give_handles(&f, rows[i].sizes, rows[i].count, rows[i].in_all);
+        is_unwritten(0x3403, &f, rows[i].what);
+    }
+
+    /* the same handle over and over */
+    static uint8_t equal[9 * 32];
+    memset(equal, 0x5A, sizeof equal);
+    give_handles(&f, right_sizes, 8, 8 * 32);
+    f.part[OF_HANDLES].at = equal;
+    is_written(0x3403, &f, "eight equal handles");
+    give_handles(&f, right_sizes, 9, 9 * 32);
+    f.part[OF_HANDLES].at = equal;
+    is_unwritten(0x3403, &f, "nine equal handles");
+
+    /* lengths in memory that could be written: they must stay as they are */
+    size_t lengths[UAF_MOST_HANDLES];
+    memcpy(lengths, right_sizes, sizeof lengths);
+    give_handles(&f, lengths, UAF_MOST_HANDLES, UAF_MOST_HANDLES * 32);
+    is_written(0x3403, &f, "key handles");
+    lengths[7] = 33;
+    is_unwritten(0x3403, &f, "an eighth handle of 33 bytes");
+    lengths[7] = 32;
+    expect(memcmp(lengths, right_sizes, sizeof lengths) == 0, "the lengths of handles changed");
+}
+
+/* A field fills the command up to 8,192 bytes; with one more it is too long, and so it is with many more. */
+static void fill_up(unsigned tag, struct fields *f, size_t which)
+{
+    struct bytes command = {{0}, 0};
+    give(f, which, 0);
+    by_tables(&command, tag, f);
+    const size_t room = 8192 - command.length;
+    give(f, which, room);
+    by_tables(&command, tag, f);
+    expect(command.length == 8192, "a full command");
+    is_written(tag, f, "a command of 8,192 bytes");
+    give(f, which, room + 1);
+    is_unwritten(tag, f, "a command of 8,193 bytes");
+    give(f, which, 8192);
+    is_unwritten(tag, f, "a field of 8,192 bytes");
+    give(f, which, 65536);
+    is_unwritten(tag, f, "a field of 65,536 bytes");
+    give(f, which, 65536 + room);
+    is_unwritten(tag, f, "a field of 65,536 bytes more than fit");
+    give(f, which, room);
+}
+
+static void longest_commands(void)
+{
+    /* the least Sign: the command's header, the index, a challenge, content and a token take 4 + 5 + 5 + 4 + 5 */
+    struct fields f = least_fields();
+    give(&f, OF_CONTENT, 8192 - 23);
+    is_written(0x3403, &f, "a Sign of 8,192 bytes");
+    give(&f, OF_CONTENT, 8192 - 22);
+    is_unwritten(0x3403, &f, "a Sign of 8,193 bytes");
+
+    fill_up(0x3403, &f, OF_CONTENT);
+    give(&f, OF_CONTENT, 4000);
+    fill_up(0x3403, &f, OF_VERIFY);
+    give(&f, OF_APP_ID, UAF_MOST_APP_ID);
+    give(&f, OF_CHALLENGE, UAF_MOST_CHALLENGE);
+    give(&f, OF_TOKEN, UAF_MOST_ACCESS_TOKEN);
+    give_handles(&f, right_sizes, UAF_MOST_HANDLES, UAF_MOST_HANDLES * 32);
+    fill_up(0x3403, &f, OF_VERIFY);
+    fill_up(0x3403, &f, OF_CONTENT);
+    take_away(&f, OF_VERIFY);
+    fill_up(0x3403, &f, OF_CONTENT);
+    give(&f, OF_NAME, UAF_MOST_USERNAME);
+    fill_up(0x3402, &f, OF_VERIFY);
+    f = least_fields();
+    fill_up(0x3402, &f, OF_VERIFY);
+
+    /* one more than fits, which each of the fields may be */
+    give(&f, OF_NAME, 4);
+    is_unwritten(0x3402, &f, "a Register of 8,193 bytes by its name");
+    give(&f, OF_NAME, 3);
+    give(&f, OF_TOKEN, 2);
+    is_unwritten(0x3402, &f, "a Register of 8,193 bytes by its access token");
+    f = least_fields();
+    fill_up(0x3403, &f, OF_CONTENT);
+    give_handles(&f, right_sizes, 1, 32);
+    is_unwritten(0x3403, &f, "a Sign of 8,228 bytes by its handle");
+    give_handles(&f, NULL, 0, 0);
+    give(&f, OF_VERIFY, 0);
+    is_unwritten(0x3403, &f, "a Sign of 8,196 bytes by an empty field");
+}
+
+/* What is written is what the tests above put together for uaf_command, and has its effect. */
+static void written_and_run(void)
+{
+    struct bytes children = {{0}, 0}, command = {{0}, 0}, none = {{0}, 0}, table = {{0}, 0}, draft = {{0}, 0}, left = {{0}, 0};
+    static const uint8_t access_token[] = {0xAA}, content[] = {'7', '.', '4', '0', ' ', 't', 'o', ' ', '3'};
+    const struct numbers n = usual(UAF_VERIFIED, UAF_SHOWN_CONFIRMED);
+    struct fields f = least_fields();
+    f.part[OF_CHALLENGE].at = challenge;
+    f.part[OF_CHALLENGE].size = sizeof challenge;
+    f.part[OF_NAME].at = (const uint8_t *)ann;
+    f.part[OF_TOKEN].at = access_token;
+    f.part[OF_KEY_ID].at = key_id;
+    f.part[OF_KEY_ID].size = sizeof key_id;
+
+    children_of(&children, ann, NULL);
+    command_of(&command, 0x3402, &children);
+    is_written_as(&command, 0x3402, &f, "the Register of the tests above");
+    krd(&draft, &n);
+    stored_record(&table, 0);
+    expect(write_into(output, UAF_MOST_COMMAND, 0x3402, &f) == 0, "Register is not written");
+    command.length = 0;
+    stretch(&command, output, written_length);
+    expect(call(&command, UAF_VERIFIED, UAF_SHOWN_CONFIRMED, &none) == 0 && wrote(UAF_DRAFT, &draft, &table), "a written Register");
+
+    give(&f, OF_CONTENT, sizeof content);
+    f.part[OF_CONTENT].at = content;
+    give_handles(&f, right_sizes, 2, 64);
+    uint8_t both[64] = {0}; /* a handle that nobody has, and the right one */
+    memcpy(both + 32, key_id, sizeof key_id);
+    f.part[OF_HANDLES].at = both;
+    signed_data(&draft, &n, 8);
+    stored_record(&table, 7);
+    stored_record(&left, 8);
+    expect(write_into(output, UAF_MOST_COMMAND, 0x3403, &f) == 0, "Sign is not written");
+    command.length = 0;
+    stretch(&command, output, written_length);
+    expect(call(&command, UAF_VERIFIED, UAF_SHOWN_CONFIRMED, &table) == 0 && wrote(UAF_DRAFT, &draft, &left), "a written Sign");
+    expect(says(&command, UAF_VERIFIED, UAF_SHOWN_CANCELLED, &table, 0x3603, UAF_STATUS_USER_CANCELLED), "a written Sign's content");
+    give_handles(&f, right_sizes, 1, 32);
+    f.part[OF_HANDLES].at = both;
+    by_tables(&command, 0x3403, &f);
+    is_written_as(&command, 0x3403, &f, "Sign with a stranger's handle");
+    expect(says(&command, UAF_VERIFIED, UAF_SHOWN_CONFIRMED, &table, 0x3603, UAF_STATUS_ACCESS_DENIED), "a written Sign's handle");
+
+    expect(write_into(output, UAF_MOST_COMMAND, 0x3404, &f) == 0, "Deregister is not written");
+    command.length = 0;
+    stretch(&command, output, written_length);
+    status_only(&left, 0x3604, UAF_STATUS_OK);
+    expect(call(&command, 0, 0, &table) == 0 && wrote(UAF_RESPONSE, &left, &none), "a written Deregister");
+    some_command(&command, 0x3401);
+    is_written_as(&command, 0x3401, &f, "the GetInfo of the tests above");
+    some_command(&command, 0x3404);
+    is_written_as(&command, 0x3404, &f, "the Deregister of the tests above");
+    some_command(&command, 0x3406);
+    is_written_as(&command, 0x3406, &f, "the Open settings of the tests above");
+    expect(stretches_are_as_lent(), "a writer changed a lent stretch");
+}
+
 /* ---- usernames: well-formed UTF-8 by RFC 3629, or none */
 
 /* Two records of the caller's, of which the second has this name, and the list that a Sign gives for them. */
@@ -647,13 +1187,24 @@ static int is_no_response(const struct bytes *bytes)
         && memcmp(&before, &r, sizeof r) == 0 && same(&lent, bytes->at, bytes->length);
 }
 
-/* Such a name is registered, stays in the table, is listed and is read from the list. */
+/* A Register with this name, to be written. */
+static struct fields naming(const char *username)
+{
+    struct fields f = least_fields();
+    f.part[OF_NAME].at = (const uint8_t *)username;
+    f.part[OF_NAME].size = strlen(username);
+    return f;
+}
+
+/* Such a name is written, registered, stays in the table, is listed and is read from the list. */
 static void name_taken(const char *username)
 {
     struct bytes children = {{0}, 0}, registering = {{0}, 0}, signing = {{0}, 0};
     struct bytes none = {{0}, 0}, draft = {{0}, 0}, left = {{0}, 0}, table = {{0}, 0}, list = {{0}, 0};
     const struct numbers n = usual(UAF_VERIFIED, UAF_SHOWN_CONFIRMED);
+    const struct fields f = naming(username);
     struct reading r;
+    is_written(0x3402, &f, "a Register to write with a name in UTF-8");
     children_of(&children, username, NULL);
     command_of(&registering, 0x3402, &children);
     krd(&draft, &n);
@@ -671,10 +1222,12 @@ static void name_taken(const char *username)
         "a listed name in UTF-8");
 }
 
-/* Such a name is 0x08 in a Register, whatever the verdict; 2 in a table; 5 in a list. Nothing that was lent changes. */
+/* Such a name is 0x08 in a Register, whatever the verdict; 2 in a table; 5 in a list; 6 in a Register to write. Nothing that was lent changes. */
 static void name_refused(const char *username)
 {
     struct bytes children = {{0}, 0}, registering = {{0}, 0}, info = {{0}, 0}, none = {{0}, 0}, table = {{0}, 0}, list = {{0}, 0};
+    const struct fields f = naming(username);
+    is_unwritten(0x3402, &f, "a Register to write with a name that is no UTF-8");
     children_of(&children, username, NULL);
     command_of(&registering, 0x3402, &children);
     stored_records(&table, 1);
@@ -758,6 +1311,7 @@ static void constants_and_names(void)
         {UAF_REFUSED_COMMAND, 3, "fewer than 4 bytes, or none of the five commands"},
         {UAF_REFUSED_LENT, 4, "a lent result that this command or completion uses has a wrong length or number"},
         {UAF_REFUSED_BYTES, 5, "no draft of this kind, or no response"},
+        {UAF_REFUSED_FIELD, 6, "a field or the number of key handles breaks a rule, or the command would be too long"},
     };
     static const struct named statuses[] = {
         {UAF_STATUS_OK, 0x00, "OK"},
@@ -854,6 +1408,8 @@ static void constants_and_names(void)
         {UAF_SHOWN_CANCELLED, 1, "display: cancelled"},
         {UAF_SHOWN_NOT_RENDERED, 2, "display: cannot render"},
         {UAF_SHOWN_NO_REPLY, 3, "display: no reply"},
+        {UAF_NOT_GIVEN, 0, "not given"},
+        {UAF_GIVEN, 1, "given"},
         {UAF_COMPLETE_REGISTRATION, 0, "a registration's completion"},
         {UAF_COMPLETE_SIGN, 1, "a sign's completion"},
         {UAF_BASIC_FULL, 0x3E07, "full attestation"},
@@ -865,12 +1421,14 @@ static void constants_and_names(void)
     char version[32];
     snprintf(version, sizeof version, "%d.%d", UAF_TOKEN_MAJOR, UAF_TOKEN_MINOR);
     expect(strcmp(version, UAF_TOKEN_VERSION) == 0, "the version's numbers and its text");
+    expect(strcmp(version, "2.1") == 0, "the version");
 }
 
 int main(void)
 {
     constants_and_names();
     lend_all();
+    fill_pool();
     get_info();
     registers();
     signs();
@@ -880,6 +1438,14 @@ int main(void)
     numbers_lent();
     completes();
     reads();
+    writes_these_bytes();
+    given_or_not();
+    marks();
+    field_lengths();
+    attestation_types();
+    key_handles();
+    longest_commands();
+    written_and_run();
     usernames();
     printf("header: %d checks, %s\n", checks,
 #ifdef __cplusplus

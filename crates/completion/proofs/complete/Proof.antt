@@ -4,8 +4,9 @@ use mathlib.Core.Path.{sym, _∙_}
 use native.Mathlib.Omega.{arith}
 use lib.ListN.{length}
 use borrow.Author.Tests.{not-true, not-false}
+use Rattle.fields.proofs.RefusalLaws.{ends-refused}
 use Rattle.completion.specs.Completions.{completion}
-use Rattle.completion.proofs.CompletionLaws.{seal-alone, ends-refused, Passes, refused-short, refused-draft, refused-lent, parts-short, certificate-short, sign-ends, full-ends, surrogate-ends}
+use Rattle.completion.proofs.CompletionLaws.{seal-alone, Passes, refused-short, refused-draft, refused-lent, parts-short, certificate-short, sign-ends, full-ends, surrogate-ends}
 use borrow.Author.Needs.{needs}
 use Rattle.completion.proofs.complete.Statement.{statement}
 use Rattle.completion.proofs.complete.Tie as tie

@@ -160,3 +160,137 @@ pub unsafe extern "C" fn peer_read_fields(
         *count = heading.count;
     })
 }
+
+/// # Safety
+///
+/// As `uaf_write_get_info` in `uaf_token.h`.
+#[no_mangle]
+pub unsafe extern "C" fn peer_write_get_info(
+    command: *mut u8,
+    command_size: usize,
+    command_length: *mut usize,
+) -> u32 {
+    uaf_peer::write_get_info(
+        slice::from_raw_parts_mut(command, command_size),
+        &mut *command_length,
+    )
+}
+
+/// # Safety
+///
+/// As `uaf_write_register` in `uaf_token.h`.
+#[no_mangle]
+pub unsafe extern "C" fn peer_write_register(
+    app_id_given: u32,
+    app_id: *const u8,
+    app_id_size: usize,
+    challenge: *const u8,
+    challenge_size: usize,
+    username: *const u8,
+    username_size: usize,
+    attestation: u32,
+    access_token: *const u8,
+    access_token_size: usize,
+    verify_token_given: u32,
+    verify_token: *const u8,
+    verify_token_size: usize,
+    command: *mut u8,
+    command_size: usize,
+    command_length: *mut usize,
+) -> u32 {
+    uaf_peer::write_register(
+        app_id_given,
+        slice::from_raw_parts(app_id, app_id_size),
+        slice::from_raw_parts(challenge, challenge_size),
+        slice::from_raw_parts(username, username_size),
+        attestation,
+        slice::from_raw_parts(access_token, access_token_size),
+        verify_token_given,
+        slice::from_raw_parts(verify_token, verify_token_size),
+        slice::from_raw_parts_mut(command, command_size),
+        &mut *command_length,
+    )
+}
+
+/// # Safety
+///
+/// As `uaf_write_sign` in `uaf_token.h`.
+#[no_mangle]
+pub unsafe extern "C" fn peer_write_sign(
+    app_id_given: u32,
+    app_id: *const u8,
+    app_id_size: usize,
+    challenge: *const u8,
+    challenge_size: usize,
+    content_given: u32,
+    content: *const u8,
+    content_size: usize,
+    access_token: *const u8,
+    access_token_size: usize,
+    verify_token_given: u32,
+    verify_token: *const u8,
+    verify_token_size: usize,
+    handles: *const u8,
+    handles_size: usize,
+    handle_sizes: *const usize,
+    handle_count: usize,
+    command: *mut u8,
+    command_size: usize,
+    command_length: *mut usize,
+) -> u32 {
+    uaf_peer::write_sign(
+        app_id_given,
+        slice::from_raw_parts(app_id, app_id_size),
+        slice::from_raw_parts(challenge, challenge_size),
+        content_given,
+        slice::from_raw_parts(content, content_size),
+        slice::from_raw_parts(access_token, access_token_size),
+        verify_token_given,
+        slice::from_raw_parts(verify_token, verify_token_size),
+        slice::from_raw_parts(handles, handles_size),
+        slice::from_raw_parts(handle_sizes, handle_count),
+        slice::from_raw_parts_mut(command, command_size),
+        &mut *command_length,
+    )
+}
+
+/// # Safety
+///
+/// As `uaf_write_deregister` in `uaf_token.h`.
+#[no_mangle]
+pub unsafe extern "C" fn peer_write_deregister(
+    app_id_given: u32,
+    app_id: *const u8,
+    app_id_size: usize,
+    key_id: *const u8,
+    key_id_size: usize,
+    access_token: *const u8,
+    access_token_size: usize,
+    command: *mut u8,
+    command_size: usize,
+    command_length: *mut usize,
+) -> u32 {
+    uaf_peer::write_deregister(
+        app_id_given,
+        slice::from_raw_parts(app_id, app_id_size),
+        slice::from_raw_parts(key_id, key_id_size),
+        slice::from_raw_parts(access_token, access_token_size),
+        slice::from_raw_parts_mut(command, command_size),
+        &mut *command_length,
+    )
+}
+
+/// # Safety
+///
+/// As `uaf_write_open_settings` in `uaf_token.h`.
+#[no_mangle]
+pub unsafe extern "C" fn peer_write_open_settings(
+    command: *mut u8,
+    command_size: usize,
+    command_length: *mut usize,
+) -> u32 {
+    uaf_peer::write_open_settings(
+        slice::from_raw_parts_mut(command, command_size),
+        &mut *command_length,
+    )
+}

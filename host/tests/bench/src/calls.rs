@@ -1,17 +1,19 @@
-//! A call of one of the four entries, with all that it is lent.
+//! A call of one of the entries, with all that it is lent.
 
-use crate::data::noise;
+use crate::data::{noise, ACCESS_TOKEN, APP_ID, CHALLENGE};
 use crate::entries::{Entries, Row, MOST_FIELDS};
 use crate::placed::{Placed, Role};
 
 pub const LEAST_RESPONSE: usize = 4096;
 pub const LEAST_TABLE: usize = 6912;
+pub const MOST_COMMAND: usize = 8192;
 
 pub enum Call {
     Command(Command),
     Complete(Complete),
     SignedPart(Placed),
     ReadFields(Placed),
+    Write(Write),
 }
 
 pub struct Command {
@@ -30,6 +32,37 @@ pub struct Complete {
     pub certificate: Placed,
 }
 
+pub struct Write {
+    pub what: Written,
+    /// How much of the command output is lent.
+    pub room: usize,
+}
+
+/// A command, with the fields that are not alike in all.
+pub enum Written {
+    GetInfo,
+    Register {
+        username: Placed,
+    },
+    Sign {
+        content: Option<Placed>,
+        handles: Placed,
+        handle_sizes: Vec<usize>,
+    },
+    Deregister {
+        key_id: Placed,
+    },
+    OpenSettings,
+}
+
+/// Whether a field is given to a writer.
+const NOT_GIVEN: u32 = 0;
+const GIVEN: u32 = 1;
+/// The attestation type of a Register.
+const FULL: u32 = 0x3E07;
+/// What is lent for a field that is not given.
+const NOTHING: &[u8] = &[];
+
 impl Call {
     /// Moves what it is lent to its place in a round.
     pub fn settle(&mut self, round: usize) {
@@ -42,6 +75,14 @@ impl Call {
             ],
             Call::Complete(call) => vec![&mut call.draft, &mut call.certificate],
             Call::SignedPart(response) | Call::ReadFields(response) => vec![response],
+            Call::Write(call) => match &mut call.what {
+                Written::Register { username } => vec![username],
+                Written::Sign {
+                    content, handles, ..
+                } => content.iter_mut().chain([handles]).collect(),
+                Written::Deregister { key_id } => vec![key_id],
+                Written::GetInfo | Written::OpenSettings => Vec::new(),
+            },
         };
         for placed in lent {
             placed.settle(round);
@@ -83,6 +124,8 @@ impl Desk {
 pub struct Outputs {
     pub response: Placed,
     pub table: Placed,
+    pub command: Placed,
+    pub command_length: usize,
     answer: u32,
     pub response_length: usize,
     pub table_length: usize,
@@ -104,6 +147,8 @@ impl Outputs {
         Outputs {
             response: Placed::new(&[BEFORE as u8; LEAST_RESPONSE], Role::ResponseOut),
             table: Placed::new(&[BEFORE as u8; LEAST_TABLE], Role::TableOut),
+            command: Placed::new(&[BEFORE as u8; MOST_COMMAND], Role::CommandOut),
+            command_length: BEFORE,
             answer: BEFORE as u32,
             response_length: BEFORE,
             table_length: BEFORE,
@@ -115,6 +160,21 @@ impl Outputs {
             tags: [BEFORE; MOST_FIELDS],
             places: [BEFORE; MOST_FIELDS],
             lengths: [BEFORE; MOST_FIELDS],
+        }
+    }
+
+    /// Where a copy of what goes through a call is written: into its own outputs, and for the reader into a response's.
+    pub fn of(&mut self, call: &Call) -> Vec<&mut Placed> {
+        match call {
+            Call::Write(_) => vec![&mut self.command],
+            _ => vec![&mut self.response, &mut self.table],
+        }
+    }
+
+    /// Moves them to their places in a round.
+    pub fn settle(&mut self, round: usize) {
+        for placed in [&mut self.response, &mut self.table, &mut self.command] {
+            placed.settle(round);
         }
     }
 }
@@ -148,6 +208,7 @@ pub fn repeat(entries: &Entries, desk: &Desk, call: &Call, out: &mut Outputs, ti
                 )
             })
         }
+        Call::Write(call) => writings(entries, call, out, times),
     }
 }
 
@@ -215,6 +276,90 @@ fn completions(
             &mut out.response_length,
         )
     })
+}
+
+/// Of its own, so that `repeat` takes no more stack than without it.
+#[inline(never)]
+fn writings(entries: &Entries, call: &Write, out: &mut Outputs, times: u32) -> u32 {
+    let (command, room) = (out.command[..call.room].as_mut_ptr(), call.room);
+    let length = &mut out.command_length;
+    // Safety: as in `commands`; of a field that is not given there are no bytes.
+    match &call.what {
+        Written::GetInfo => again(times, || unsafe {
+            (entries.write_get_info)(command, room, length)
+        }),
+        Written::Register { username } => again(times, || unsafe {
+            (entries.write_register)(
+                GIVEN,
+                APP_ID.as_ptr(),
+                APP_ID.len(),
+                CHALLENGE.as_ptr(),
+                CHALLENGE.len(),
+                username.as_ptr(),
+                username.len(),
+                FULL,
+                ACCESS_TOKEN.as_ptr(),
+                ACCESS_TOKEN.len(),
+                NOT_GIVEN,
+                NOTHING.as_ptr(),
+                NOTHING.len(),
+                command,
+                room,
+                length,
+            )
+        }),
+        Written::Sign {
+            content,
+            handles,
+            handle_sizes,
+        } => {
+            let (given, content) = match content {
+                Some(content) => (GIVEN, &content[..]),
+                None => (NOT_GIVEN, NOTHING),
+            };
+            again(times, || unsafe {
+                (entries.write_sign)(
+                    GIVEN,
+                    APP_ID.as_ptr(),
+                    APP_ID.len(),
+                    CHALLENGE.as_ptr(),
+                    CHALLENGE.len(),
+                    given,
+                    content.as_ptr(),
+                    content.len(),
+                    ACCESS_TOKEN.as_ptr(),
+                    ACCESS_TOKEN.len(),
+                    NOT_GIVEN,
+                    NOTHING.as_ptr(),
+                    NOTHING.len(),
+                    handles.as_ptr(),
+                    handles.len(),
+                    handle_sizes.as_ptr(),
+                    handle_sizes.len(),
+                    command,
+                    room,
+                    length,
+                )
+            })
+        }
+        Written::Deregister { key_id } => again(times, || unsafe {
+            (entries.write_deregister)(
+                GIVEN,
+                APP_ID.as_ptr(),
+                APP_ID.len(),
+                key_id.as_ptr(),
+                key_id.len(),
+                ACCESS_TOKEN.as_ptr(),
+                ACCESS_TOKEN.len(),
+                command,
+                room,
+                length,
+            )
+        }),
+        Written::OpenSettings => again(times, || unsafe {
+            (entries.write_open_settings)(command, room, length)
+        }),
+    }
 }
 
 /// The loop that is timed: nothing but the call stands in it.

@@ -1,8 +1,10 @@
 //! What is measured: each command on tables of five sizes and four kinds, and on tables with names in other texts; each completion, both calls of
-//! the reader, and some refusals of each.
+//! the reader, the writers of commands, and some refusals of each.
 
-use crate::calls::{repeat, Call, Command, Complete, Desk, Outputs, LEAST_TABLE};
-use crate::data::{command, noise, Ids, Setting, Text};
+use crate::calls::{
+    repeat, Call, Command, Complete, Desk, Outputs, Write, Written, LEAST_TABLE, MOST_COMMAND,
+};
+use crate::data::{self, command, noise, Ids, Setting, Text};
 use crate::entries::{peer, token};
 use crate::placed::{Placed, Role};
 
@@ -16,6 +18,7 @@ pub struct Case {
 const OUTPUT: u32 = 1;
 const TABLE: u32 = 2;
 const BYTES: u32 = 5;
+const FIELD: u32 = 6;
 
 /// A holder without records: the four of a full table are 0 to 3.
 const NEWCOMER: usize = 9;
@@ -36,9 +39,9 @@ const TEXTS: [(&str, Text); 4] = [
 const HALF: u8 = 0xC3;
 
 const INDEX: (u16, &[u8]) = (0x280D, &[0]);
-const APP_ID: (u16, &[u8]) = (0x2804, b"https://tote.example/facets.json");
-const ACCESS_TOKEN: (u16, &[u8]) = (0x2805, b"0123456789abcdef0123456789abcdef");
-const CHALLENGE: (u16, &[u8]) = (0x2E0A, b"a challenge hash: 32 bytes in it");
+const APP_ID: (u16, &[u8]) = (0x2804, data::APP_ID);
+const ACCESS_TOKEN: (u16, &[u8]) = (0x2805, data::ACCESS_TOKEN);
+const CHALLENGE: (u16, &[u8]) = (0x2E0A, data::CHALLENGE);
 const FULL: (u16, &[u8]) = (0x2807, &[0x07, 0x3E]);
 const CONTENT: (u16, &[u8]) = (
     0x2810,
@@ -333,6 +336,113 @@ fn both_readings(name: &str, response: &[u8], refusal: u32) -> Vec<Case> {
     ]
 }
 
+fn write(what: Written) -> Call {
+    Call::Write(Write {
+        what,
+        room: MOST_COMMAND,
+    })
+}
+
+fn write_register(name: &[u8]) -> Call {
+    write(Written::Register {
+        username: Placed::new(name, Role::Username),
+    })
+}
+
+/// With content of so many bytes, or none, and so many handles.
+fn write_sign(content: Option<usize>, handles: usize) -> Written {
+    Written::Sign {
+        content: content.map(|length| Placed::new(&noise(length, 7), Role::Content)),
+        handles: Placed::new(&noise(HANDLE * handles, 8), Role::Handles),
+        handle_sizes: vec![HANDLE; handles],
+    }
+}
+
+fn write_deregister(key: &[u8]) -> Call {
+    write(Written::Deregister {
+        key_id: Placed::new(key, Role::KeyId),
+    })
+}
+
+/// The length of a key handle.
+const HANDLE: usize = 32;
+
+/// A Register for each text and length of name.
+fn written_registers() -> Vec<Case> {
+    let mut cases = Vec::new();
+    for (said, text) in [("", Text::Ascii)].into_iter().chain(TEXTS) {
+        for length in [SHORT, LONG] {
+            let setting = Setting::new(1, Ids::Random, length).written_in(text);
+            let comma = if said.is_empty() { "" } else { ", " };
+            let name = format!("write: Register, name of {}{}{}", length, comma, said);
+            cases.push(served(name, write_register(&setting.name(UNUSED))));
+        }
+    }
+    cases
+}
+
+fn written() -> Vec<Case> {
+    let mut cases = vec![served(
+        "write: GetInfo".to_string(),
+        write(Written::GetInfo),
+    )];
+    cases.extend(written_registers());
+    for (said, content, handles) in [
+        ("no content, no handle", None, 0),
+        ("no content, one handle", None, 1),
+        ("no content, 8 handles", None, 8),
+        ("content of 0, no handle", Some(0), 0),
+        ("content of 100, no handle", Some(100), 0),
+        ("content of 100, 8 handles", Some(100), 8),
+        ("content of 8,000, no handle", Some(8000), 0),
+    ] {
+        let name = format!("write: Sign, {}", said);
+        cases.push(served(name, write(write_sign(content, handles))));
+    }
+    let key = Ids::Random.key_id(0);
+    for (name, key) in [("one", &key[..]), ("all", &[])] {
+        let name = format!("write: Deregister {}", name);
+        cases.push(served(name, write_deregister(key)));
+    }
+    let settings = write(Written::OpenSettings);
+    cases.push(served("write: Open settings".to_string(), settings));
+    cases
+}
+
+/// Fields of which only the last byte or the last length is wrong, a command that is one byte too long, and one byte too little room.
+fn unwritten(desk: &Desk) -> Vec<Case> {
+    let setting = Setting::new(1, Ids::Random, LONG).written_in(Text::Latin);
+    let mut cut = setting.name(UNUSED);
+    cut[LONG - 1] = HALF;
+    let longer = Written::Sign {
+        content: None,
+        handles: Placed::new(&noise(HANDLE * 8 + 1, 8), Role::Handles),
+        handle_sizes: [vec![HANDLE; 7], vec![HANDLE + 1]].concat(),
+    };
+    let length = |what: Written| {
+        let mut out = Outputs::new();
+        assert_eq!(repeat(&peer(), desk, &write(what), &mut out, 1), 0);
+        out.command_length
+    };
+    let fits = MOST_COMMAND - length(write_sign(Some(0), 0));
+    let short = Write {
+        room: length(write_sign(None, 8)) - 1,
+        what: write_sign(None, 8),
+    };
+    let case =
+        |what: &str, call, refusal| refused(format!("write: refused, {}", what), call, refusal);
+    vec![
+        case("a long name cut", write_register(&cut), FIELD),
+        case("the eighth handle too long", write(longer), FIELD),
+        case(
+            "one byte too long",
+            write(write_sign(Some(fits + 1), 0)),
+            FIELD,
+        ),
+        case("an output one byte too short", Call::Write(short), OUTPUT),
+    ]
+}
+
 /// All cases, in the order in which they are reported.
 pub fn all(desk: &Desk) -> Vec<Case> {
     let mut cases = commands();
@@ -349,6 +459,8 @@ pub fn all(desk: &Desk) -> Vec<Case> {
     for (name, bytes) in no_responses(desk) {
         cases.extend(both_readings(&name, &bytes, BYTES));
     }
+    cases.extend(written());
+    cases.extend(unwritten(desk));
     cases
 }
 
@@ -378,6 +490,10 @@ impl Case {
                 Placed::new(&out.table[..out.table_length], Role::Table),
             ],
             Call::Complete(_) => vec![response(&out.response[..out.response_length])],
+            Call::Write(_) => vec![Placed::new(
+                &out.command[..out.command_length],
+                Role::Command,
+            )],
         }
     }
 }

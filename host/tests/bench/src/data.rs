@@ -1,5 +1,10 @@
 //! What the cases are made of: tables and commands, each from its fields.
 
+/// What the commands of one caller have alike.
+pub const APP_ID: &[u8] = b"https://tote.example/facets.json";
+pub const ACCESS_TOKEN: &[u8] = b"0123456789abcdef0123456789abcdef";
+pub const CHALLENGE: &[u8] = b"a challenge hash: 32 bytes in it";
+
 /// A TLV as bytes.
 pub fn tlv(tag: u16, value: &[u8]) -> Vec<u8> {
     let mut bytes = tag.to_le_bytes().to_vec();

@@ -85,6 +85,68 @@ entries! {
         places: *mut Row,
         lengths: *mut Row,
     );
+    WriteGetInfo = uaf_write_get_info(
+        command: *mut u8,
+        command_size: usize,
+        command_length: *mut usize,
+    );
+    WriteRegister = uaf_write_register(
+        app_id_given: u32,
+        app_id: *const u8,
+        app_id_size: usize,
+        challenge: *const u8,
+        challenge_size: usize,
+        username: *const u8,
+        username_size: usize,
+        attestation: u32,
+        access_token: *const u8,
+        access_token_size: usize,
+        verify_token_given: u32,
+        verify_token: *const u8,
+        verify_token_size: usize,
+        command: *mut u8,
+        command_size: usize,
+        command_length: *mut usize,
+    );
+    WriteSign = uaf_write_sign(
+        app_id_given: u32,
+        app_id: *const u8,
+        app_id_size: usize,
+        challenge: *const u8,
+        challenge_size: usize,
+        content_given: u32,
+        content: *const u8,
+        content_size: usize,
+        access_token: *const u8,
+        access_token_size: usize,
+        verify_token_given: u32,
+        verify_token: *const u8,
+        verify_token_size: usize,
+        handles: *const u8,
+        handles_size: usize,
+        handle_sizes: *const usize,
+        handle_count: usize,
+        command: *mut u8,
+        command_size: usize,
+        command_length: *mut usize,
+    );
+    WriteDeregister = uaf_write_deregister(
+        app_id_given: u32,
+        app_id: *const u8,
+        app_id_size: usize,
+        key_id: *const u8,
+        key_id_size: usize,
+        access_token: *const u8,
+        access_token_size: usize,
+        command: *mut u8,
+        command_size: usize,
+        command_length: *mut usize,
+    );
+    WriteOpenSettings = uaf_write_open_settings(
+        command: *mut u8,
+        command_size: usize,
+        command_length: *mut usize,
+    );
 }
 
 #[derive(Clone, Copy)]
@@ -93,6 +155,11 @@ pub struct Entries {
     pub complete: Complete,
     pub signed_part: SignedPart,
     pub read_fields: ReadFields,
+    pub write_get_info: WriteGetInfo,
+    pub write_register: WriteRegister,
+    pub write_sign: WriteSign,
+    pub write_deregister: WriteDeregister,
+    pub write_open_settings: WriteOpenSettings,
 }
 
 pub fn token() -> Entries {
@@ -101,6 +168,11 @@ pub fn token() -> Entries {
         complete: uaf_complete,
         signed_part: uaf_signed_part,
         read_fields: uaf_read_fields,
+        write_get_info: uaf_write_get_info,
+        write_register: uaf_write_register,
+        write_sign: uaf_write_sign,
+        write_deregister: uaf_write_deregister,
+        write_open_settings: uaf_write_open_settings,
     })
 }
 
@@ -110,6 +182,11 @@ pub fn peer() -> Entries {
         complete: peer_c::peer_complete,
         signed_part: peer_c::peer_signed_part,
         read_fields: peer_c::peer_read_fields,
+        write_get_info: peer_c::peer_write_get_info,
+        write_register: peer_c::peer_write_register,
+        write_sign: peer_c::peer_write_sign,
+        write_deregister: peer_c::peer_write_deregister,
+        write_open_settings: peer_c::peer_write_open_settings,
     })
 }
 

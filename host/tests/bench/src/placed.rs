@@ -19,6 +19,10 @@ pub enum Role {
     Certificate,
     Mixed,
     KeyId,
+    Username,
+    Content,
+    Handles,
+    CommandOut,
 }
 
 impl Role {

@@ -46,8 +46,7 @@ pub fn measure(desk: &Desk, cases: &mut [Case]) -> Vec<Times> {
         .map(|case| Clocked::new(desk, case, &mut out))
         .collect();
     for round in 0..ROUNDS {
-        out.response.settle(round);
-        out.table.settle(round);
+        out.settle(round);
         stack::from_place(round, || {
             for case in &mut clocked {
                 case.settle(round);
@@ -111,7 +110,7 @@ impl<'a> Clocked<'a> {
 
     fn copies(&self, out: &mut Outputs, times: u32) -> Duration {
         let copy = copier();
-        let outputs = [&mut out.response, &mut out.table];
+        let outputs = out.of(&self.case.call);
         let copies: Vec<(*mut u8, &[u8])> = outputs
             .into_iter()
             .zip(&self.copied)

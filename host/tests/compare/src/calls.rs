@@ -1,5 +1,6 @@
 //! The calls to be made, with inputs of their own, and how they are printed.
 
+use crate::tlv::Kind;
 use std::fmt::{self, Display, Formatter};
 use uaf_peer::{Lent, Profile};
 
@@ -64,6 +65,54 @@ pub struct CompleteCall {
     pub response_size: usize,
 }
 
+/// The marks of a field that may be left away.
+pub const NOT_GIVEN: u32 = 0;
+pub const GIVEN: u32 = 1;
+
+/// A field that may be left away, with its mark.
+#[derive(Clone, PartialEq, Eq, Default)]
+pub struct Marked {
+    pub mark: u32,
+    pub bytes: Vec<u8>,
+}
+
+/// A call of the writer of one command, which is lent the fields that the command lists.
+#[derive(Clone, PartialEq, Eq)]
+pub struct WriteCall {
+    pub kind: Kind,
+    pub app_id: Marked,
+    pub challenge: Vec<u8>,
+    pub username: Vec<u8>,
+    pub attestation: u32,
+    pub content: Marked,
+    pub access_token: Vec<u8>,
+    pub verify_token: Marked,
+    pub key_id: Vec<u8>,
+    pub handles: Vec<u8>,
+    pub handle_sizes: Vec<usize>,
+    pub command_size: usize,
+}
+
+impl WriteCall {
+    /// Without fields.
+    pub fn new(kind: Kind) -> WriteCall {
+        WriteCall {
+            kind,
+            app_id: Marked::default(),
+            challenge: Vec::new(),
+            username: Vec::new(),
+            attestation: 0,
+            content: Marked::default(),
+            access_token: Vec::new(),
+            verify_token: Marked::default(),
+            key_id: Vec::new(),
+            handles: Vec::new(),
+            handle_sizes: Vec::new(),
+            command_size: 0,
+        }
+    }
+}
+
 /// What document 01 says of a call, as far as the generator knows it without deciding the command.
 #[derive(Clone, Copy, PartialEq, Eq, Debug)]
 pub enum Expect {
@@ -120,5 +169,28 @@ impl Display for CompleteCall {
         writeln!(f, "  signature           {}", Hex(&self.signature))?;
         writeln!(f, "  certificate         {}", Hex(&self.certificate))?;
         writeln!(f, "  response_size       {}", self.response_size)
+    }
+}
+
+impl Display for Marked {
+    fn fmt(&self, f: &mut Formatter) -> fmt::Result {
+        write!(f, "mark {} {}", self.mark, Hex(&self.bytes))
+    }
+}
+
+impl Display for WriteCall {
+    fn fmt(&self, f: &mut Formatter) -> fmt::Result {
+        writeln!(f, "uaf_write_*, {:?}", self.kind)?;
+        writeln!(f, "  app_id              {}", self.app_id)?;
+        writeln!(f, "  challenge           {}", Hex(&self.challenge))?;
+        writeln!(f, "  username            {}", Hex(&self.username))?;
+        writeln!(f, "  attestation         {:#X}", self.attestation)?;
+        writeln!(f, "  content             {}", self.content)?;
+        writeln!(f, "  key_id              {}", Hex(&self.key_id))?;
+        writeln!(f, "  access_token        {}", Hex(&self.access_token))?;
+        writeln!(f, "  verify_token        {}", self.verify_token)?;
+        writeln!(f, "  handles             {}", Hex(&self.handles))?;
+        writeln!(f, "  handle_sizes        {:?}", self.handle_sizes)?;
+        writeln!(f, "  command_size        {}", self.command_size)
     }
 }

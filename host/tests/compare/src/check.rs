@@ -1,12 +1,13 @@
 //! Makes each call on the token and on the independent implementation and compares all that they
 //! answer and all that they leave.
 
-use crate::calls::{CommandCall, CompleteCall, Expect, Hex};
+use crate::calls::{CommandCall, CompleteCall, Expect, Hex, WriteCall};
 use crate::outcome;
 use crate::output::Output;
 use crate::properties;
 use crate::report::{self, Counts, Entry, Outcome};
 use crate::rng::Rng;
+use crate::tlv::Kind;
 use std::fmt::Debug;
 use std::ops::Range;
 use std::panic::{catch_unwind, AssertUnwindSafe};
@@ -113,6 +114,51 @@ fn row(rng: &mut Rng) -> [usize; MOST_FIELDS] {
     [(); MOST_FIELDS].map(|()| rng.next() as usize)
 }
 
+/// The call of a writer, by the token or by the peer: both have the same shapes.
+macro_rules! write_by {
+    ($by:ident, $call:expr, $command:expr, $length:expr) => {{
+        let call: &WriteCall = $call;
+        match call.kind {
+            Kind::GetInfo => $by::write_get_info($command, $length),
+            Kind::Register => $by::write_register(
+                call.app_id.mark,
+                &call.app_id.bytes,
+                &call.challenge,
+                &call.username,
+                call.attestation,
+                &call.access_token,
+                call.verify_token.mark,
+                &call.verify_token.bytes,
+                $command,
+                $length,
+            ),
+            Kind::Sign => $by::write_sign(
+                call.app_id.mark,
+                &call.app_id.bytes,
+                &call.challenge,
+                call.content.mark,
+                &call.content.bytes,
+                &call.access_token,
+                call.verify_token.mark,
+                &call.verify_token.bytes,
+                &call.handles,
+                &call.handle_sizes,
+                $command,
+                $length,
+            ),
+            Kind::Deregister => $by::write_deregister(
+                call.app_id.mark,
+                &call.app_id.bytes,
+                &call.key_id,
+                &call.access_token,
+                $command,
+                $length,
+            ),
+            Kind::OpenSettings => $by::write_open_settings($command, $length),
+        }
+    }};
+}
+
 /// The lengths that a refused command wrote.
 const NOTHING: CommandNumbers = CommandNumbers {
     answer: 0,
@@ -128,6 +174,7 @@ pub struct Checker {
     rng: Rng,
     response: Output,
     table: Output,
+    command: Output,
 }
 
 impl Checker {
@@ -137,6 +184,7 @@ impl Checker {
             rng: Rng::new(0, 0),
             response: Output::default(),
             table: Output::default(),
+            command: Output::default(),
         }
     }
 
@@ -288,6 +336,50 @@ impl Checker {
         };
         let peer = as_entry(before, by_peer, |length| length)?;
         Ok(((refusal, length), peer))
+    }
+
+    /// A writer. Gives the command, or nothing after a refusal.
+    pub fn write(&mut self, call: &WriteCall, expect: Expect) -> Checked<Option<Vec<u8>>> {
+        let kept = call.clone();
+        let (token, peer) = self
+            .run_writer(call)
+            .or_else(|what| fail(what, call.to_string()))?;
+        let (refusal, length) = token;
+        let fault = differ(&token, &peer, expect)
+            .or_else(|| {
+                let written = if refusal == 0 { length } else { 0 };
+                self.command.fault("command", written)
+            })
+            .or_else(|| changed(kept != *call));
+        if let Some(what) = fault {
+            let mut text = call.to_string() + &both(&token, &peer);
+            text += &format!("  token's command {}\n", self.command.token_hex(length));
+            text += &format!("  peer's command  {}\n", self.command.peer_hex(peer.1));
+            return fail(what, text);
+        }
+        let answer = match refusal {
+            0 => Outcome::Written,
+            _ => Outcome::Refusal(refusal),
+        };
+        self.counts
+            .add(Entry::Write, report::name_of(call.kind), answer);
+        if refusal != 0 {
+            self.counts.add_property(properties::REFUSAL);
+            return Ok(None);
+        }
+        Ok(Some(self.command.written(length).to_vec()))
+    }
+
+    fn run_writer(&mut self, call: &WriteCall) -> Result<(Left<usize>, Left<usize>), String> {
+        let before = self.rng.next() as usize;
+        self.command.prepare(&mut self.rng, call.command_size);
+        let mut length = before;
+        let refusal = write_by!(raw, call, self.command.token(), &mut length);
+        let mut by_peer = before;
+        let command = self.command.peer();
+        let write = || write_by!(uaf_peer, call, command, &mut by_peer);
+        let peer = catch_unwind(AssertUnwindSafe(write)).or(Err("the peer panicked"))?;
+        Ok(((refusal, length), (peer, by_peer)))
     }
 
     /// The reader's first call.

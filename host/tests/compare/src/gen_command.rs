@@ -8,7 +8,7 @@ use crate::tlv::{self, Child, Kind, CRITICAL};
 
 /// The greatest command.
 pub const MOST_COMMAND: usize = 8192;
-const MOST_HANDLES: usize = 8;
+pub const MOST_HANDLES: usize = 8;
 /// A length that "any" mostly stays below.
 const ANY: usize = 200;
 
@@ -129,20 +129,20 @@ impl Scene {
     }
 }
 
-fn attestation_type(rng: &mut Rng) -> [u8; 2] {
-    let tag = match rng.below(10) {
+/// A type that a Register may give: mostly one of the two that it supports.
+pub fn attestation_type(rng: &mut Rng) -> u16 {
+    match rng.below(10) {
         0..=3 => tlv::BASIC_FULL,
         4..=7 => tlv::BASIC_SURROGATE,
         8 => rng.pick(&[0, 0x3E06, 0x3E09, 0x073E, 0x083E, 0x3E0F, u16::MAX]),
         _ => rng.next() as u16,
-    };
-    tag.to_le_bytes()
+    }
 }
 
 fn right_value(rng: &mut Rng, rule: &Rule, scene: &Scene) -> Vec<u8> {
     match rule.tag {
         tlv::INDEX => vec![0],
-        tlv::ATTESTATION_TYPE => attestation_type(rng).to_vec(),
+        tlv::ATTESTATION_TYPE => attestation_type(rng).to_le_bytes().to_vec(),
         tlv::USERNAME => gen_name::right(rng),
         tlv::KEYID if rng.percent(20) => Vec::new(),
         tlv::KEYID => scene.key_id(rng).to_vec(),
@@ -153,7 +153,8 @@ fn right_value(rng: &mut Rng, rule: &Rule, scene: &Scene) -> Vec<u8> {
     }
 }
 
-fn handles(rng: &mut Rng, scene: &Scene) -> Vec<Child> {
+/// Key handles, now and then one twice.
+pub fn handles(rng: &mut Rng, scene: &Scene) -> Vec<Child> {
     let number = match rng.below(10) {
         0..=3 => 0,
         4..=6 => 1,

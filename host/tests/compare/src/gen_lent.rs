@@ -113,7 +113,7 @@ fn wrong_number(rng: &mut Rng, greatest: u32) -> u32 {
 
 /// The names of a number that is wrong in its low 16 and 8 bits too, that is good in its low 8, and
 /// that is good in its low 16.
-type WrongNames = [&'static str; 3];
+pub type WrongNames = [&'static str; 3];
 
 const VERDICT: WrongNames = [
     "lent: verdict over 5",
@@ -130,7 +130,7 @@ const VERSION: WrongNames = ["lent: version over 65,535"; 3];
 const SIGNATURE_ALGORITHM: WrongNames = ["lent: signature algorithm over 65,535"; 3];
 const KEY_ALGORITHM: WrongNames = ["lent: key algorithm over 65,535"; 3];
 
-fn spoil_number(
+pub fn spoil_number(
     rng: &mut Rng,
     number: &mut u32,
     greatest: u32,

@@ -19,6 +19,7 @@ mod gen_lent;
 mod gen_name;
 mod gen_response;
 mod gen_table;
+mod gen_write;
 mod must;
 mod names;
 mod nests;
@@ -31,6 +32,7 @@ mod singles;
 mod sweeps;
 mod tlv;
 mod traces;
+mod writes;
 
 use check::{Checked, Checker};
 use rng::Rng;
@@ -86,7 +88,7 @@ fn options() -> Options {
 fn case(checker: &mut Checker, seed: u64, case: u64) -> Checked<()> {
     let rng = &mut Rng::new(seed, case);
     checker.start(seed, case);
-    match rng.weighed(&[840, 400, 20, 240, 100, 400, 10, 1, 1, 1, 1]) {
+    match rng.weighed(&[840, 400, 20, 240, 100, 400, 10, 1, 1, 1, 1, 300, 60]) {
         0 => singles::command(rng, checker),
         1 => singles::damaged_command(rng, checker),
         2 => traces::afternoon(rng, checker),
@@ -97,7 +99,9 @@ fn case(checker: &mut Checker, seed: u64, case: u64) -> Checked<()> {
         7 => sweeps::command(rng, checker),
         8 => sweeps::table(rng, checker),
         9 => sweeps::draft(rng, checker),
-        _ => sweeps::response(rng, checker),
+        10 => sweeps::response(rng, checker),
+        11 => writes::writing(rng, checker),
+        _ => writes::forms(rng, checker),
     }
 }
 

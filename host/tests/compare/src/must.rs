@@ -20,7 +20,7 @@ fn answers(kind: Kind, read: bool) -> Vec<Outcome> {
 }
 
 /// The faults of which each must have been the only one of some call.
-pub const FAULTS: [&str; 89] = [
+pub const FAULTS: [&str; 120] = [
     "output: response too short",
     "output: table too short",
     "table: over 32 records",
@@ -110,6 +110,37 @@ pub const FAULTS: [&str; 89] = [
     "response: cut short",
     "response: bytes after",
     "response: length",
+    "writer: AppID of 0",
+    "writer: AppID over 512",
+    "writer: AppID's mark over 1",
+    "writer: AppID's mark over 1, its low 8 bits good",
+    "writer: AppID's mark over 1, its low 16 bits good",
+    "writer: challenge hash of 0",
+    "writer: challenge hash over 32",
+    "writer: name of 0",
+    "writer: name over 128",
+    "writer: name not UTF-8",
+    "writer: attestation type over 65,535",
+    "writer: content's mark over 1",
+    "writer: content's mark over 1, its low 8 bits good",
+    "writer: content's mark over 1, its low 16 bits good",
+    "writer: access token of 0",
+    "writer: access token over 32",
+    "writer: token's mark over 1",
+    "writer: token's mark over 1, its low 8 bits good",
+    "writer: token's mark over 1, its low 16 bits good",
+    "writer: KeyID of neither 0 nor 32",
+    "writer: over 8 handles",
+    "writer: handle's length",
+    "writer: handle's length far past the stretch",
+    "writer: handles' lengths do not add up",
+    "writer: handles' lengths add up modulo 2^64",
+    "writer: field over 65,535 bytes",
+    "writer: 8,193 bytes",
+    "writer: over 8,193 bytes",
+    "writer: output one byte too short",
+    "writer: output too short",
+    "writer: output empty",
 ];
 
 /// Every refusal, status and other answer of every entry.
@@ -147,6 +178,13 @@ pub fn classes() -> Vec<Class> {
         add(Entry::ReadFields, name, &answers(kind, true));
         add(Entry::SignedPart, name, &refusals(&[5]));
         add(Entry::SignedPart, name, &[Outcome::NoPart]);
+        // What has no fields has none that is wrong.
+        let numbers: &[u32] = match kind {
+            Kind::GetInfo | Kind::OpenSettings => &[1],
+            _ => &[1, 6],
+        };
+        add(Entry::Write, name, &refusals(numbers));
+        add(Entry::Write, name, &[Outcome::Written]);
     }
     for kind in [Kind::Register, Kind::Sign] {
         add(Entry::SignedPart, name_of(kind), &[Outcome::Part]);

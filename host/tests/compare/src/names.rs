@@ -1,7 +1,7 @@
 //! Names that are UTF-8 and names that are not, at each place where one is read: in a Register, in a
-//! stored table, and in Sign's list when it is read back.
+//! stored table, in Sign's list when it is read back, and where a Register is written of it.
 
-use crate::calls::{CommandCall, Expect, LEAST_RESPONSE, LEAST_TABLE};
+use crate::calls::{CommandCall, Expect, WriteCall, LEAST_RESPONSE, LEAST_TABLE};
 use crate::check::{Checked, Checker};
 use crate::gen_lent;
 use crate::gen_name::{self, EDGES, MOST_NAME};
@@ -13,6 +13,8 @@ use crate::tlv::{self, Child, Kind};
 
 const VERIFIED: u32 = 0;
 const DENIED: u32 = 1;
+/// For a Register of the longest name and the shortest other fields.
+const LONG_ENOUGH: usize = 29 + MOST_NAME;
 
 /// A holder whose calls and records differ in their names alone.
 struct Holder {
@@ -20,6 +22,8 @@ struct Holder {
     register: CommandCall,
     /// Without handles.
     sign: CommandCall,
+    /// Of the shortest fields.
+    write: WriteCall,
     records: [Record; 2],
 }
 
@@ -55,9 +59,16 @@ impl Holder {
             name: b"Ann".to_vec(),
             counter: 0,
         };
+        let write = WriteCall {
+            challenge: vec![0xAA],
+            access_token: vec![0xAA],
+            command_size: LONG_ENOUGH,
+            ..WriteCall::new(Kind::Register)
+        };
         Holder {
             register: call(Kind::Register),
             sign: call(Kind::Sign),
+            write,
             records: [record(rng.array()), record(rng.array())],
         }
     }
@@ -104,11 +115,23 @@ impl Holder {
         checker.read(&response, expect).map(drop)
     }
 
+    /// Writes a Register of it, or is refused with 6.
+    fn write(&mut self, checker: &mut Checker, name: &[u8], good: bool) -> Checked<()> {
+        self.write.username = name.to_vec();
+        let expect = if good {
+            Expect::Served
+        } else {
+            Expect::Refusal(6)
+        };
+        checker.write(&self.write, expect).map(drop)
+    }
+
     /// Sees that the name is taken at each place, or at none.
     fn takes(&mut self, checker: &mut Checker, name: &[u8], good: bool) -> Checked<()> {
         self.register(checker, name, good)?;
         self.sign(checker, name, good)?;
-        self.read(checker, name, good)
+        self.read(checker, name, good)?;
+        self.write(checker, name, good)
     }
 }
 

@@ -21,8 +21,20 @@ pub const FIELDS: &str = "fields lie one after another inside the response";
 pub const APART: &str = "other holders' calls change nothing for a holder";
 pub const CUT: &str = "a name cut inside a letter is taken nowhere";
 pub const JOINED: &str = "two names are taken as one";
+pub const FIELDS_GIVEN: &str = "reading what is written gives the fields given";
+pub const IN_ORDER: &str = "fields are written in the order of 001's tables";
+pub const WRITTEN_SERVED: &str = "what is written is neither refused nor invalid";
+pub const LONGEST: &str = "a command of 8,192 bytes is written";
+pub const EXACT: &str = "a command is written into an output of its length";
+pub const NOT_LOOKED_AT: &str = "a field that is not given is not looked at";
+pub const GIVEN_EMPTY: &str = "a field that is given empty is written";
+pub const OWN_FORM: &str = "what is written is its own form";
+pub const ONE_FORM: &str = "order and skipped children change nothing in a form";
+pub const LEAST_FORM: &str = "a form is its own form, and no command of it is shorter";
+pub const SAME_EFFECT: &str = "a command and its form have the same effect";
+pub const WRITTEN_FORM: &str = "a form is what is written of its fields";
 
-pub const ALL: [&str; 12] = [
+pub const ALL: [&str; 24] = [
     REFUSAL,
     KEPT,
     APPENDED,
@@ -35,6 +47,18 @@ pub const ALL: [&str; 12] = [
     APART,
     CUT,
     JOINED,
+    FIELDS_GIVEN,
+    IN_ORDER,
+    WRITTEN_SERVED,
+    LONGEST,
+    EXACT,
+    NOT_LOOKED_AT,
+    GIVEN_EMPTY,
+    OWN_FORM,
+    ONE_FORM,
+    LEAST_FORM,
+    SAME_EFFECT,
+    WRITTEN_FORM,
 ];
 
 type Held = Result<(), String>;

@@ -12,6 +12,7 @@ pub enum Entry {
     Complete,
     SignedPart,
     ReadFields,
+    Write,
 }
 
 /// What a call answered.
@@ -32,6 +33,8 @@ pub enum Outcome {
     /// The reader's first call: with and without a signed structure.
     Part,
     NoPart,
+    /// A command.
+    Written,
 }
 
 /// The entry, what it was given and what it answered.
@@ -49,6 +52,7 @@ impl Display for Entry {
             Entry::Complete => "uaf_complete",
             Entry::SignedPart => "uaf_signed_part",
             Entry::ReadFields => "uaf_read_fields",
+            Entry::Write => "uaf_write_*",
         })
     }
 }
@@ -67,6 +71,7 @@ impl Display for Outcome {
             Outcome::SignedContent => "sign, mode 0x02".into(),
             Outcome::Part => "signed structure".into(),
             Outcome::NoPart => "no signed structure".into(),
+            Outcome::Written => "command".into(),
         };
         f.pad(&text)
     }

@@ -38,13 +38,18 @@ fn short(rng: &mut Rng, least: usize) -> usize {
 /// A right call on a right table. What the command does is open.
 pub fn right_command(rng: &mut Rng, kind: Kind, scene: &Scene) -> CommandCall {
     let children = gen_command::right(rng, kind, scene);
+    right_call(rng, kind, scene, tlv::holding(kind.tag(), &children))
+}
+
+/// A right call of these bytes.
+pub fn right_call(rng: &mut Rng, kind: Kind, scene: &Scene, command: Vec<u8>) -> CommandCall {
     let key_id = scene.new_key_id(rng);
     let mut lent = gen_lent::right(rng, &scene.mixed, &key_id);
     if rng.percent(30) {
         gen_lent::spoil_unused(rng, &mut lent, kind);
     }
     CommandCall {
-        command: tlv::holding(kind.tag(), &children),
+        command,
         lent,
         table: gen_table::encode(&scene.records),
         response_size: enough(rng, LEAST_RESPONSE),
@@ -52,12 +57,12 @@ pub fn right_command(rng: &mut Rng, kind: Kind, scene: &Scene) -> CommandCall {
     }
 }
 
-fn some_scene(rng: &mut Rng) -> Scene {
+pub fn some_scene(rng: &mut Rng) -> Scene {
     let records = gen_table::right(rng);
     Scene::new(rng, records)
 }
 
-fn shorten(rng: &mut Rng, call: &mut CommandCall) -> &'static str {
+pub fn shorten(rng: &mut Rng, call: &mut CommandCall) -> &'static str {
     if rng.one_in(2) {
         call.response_size = short(rng, LEAST_RESPONSE);
         "output: response too short"
@@ -122,7 +127,8 @@ fn spoil_command(
     (first, found.into_iter().map(|(_, what)| what).collect())
 }
 
-fn count_lone(checker: &mut Checker, faults: &[&'static str]) {
+/// Counts the fault of a call that has no other.
+pub fn count_lone(checker: &mut Checker, faults: &[&'static str]) {
     if let [fault] = faults {
         checker.counts.add_fault(fault);
     }

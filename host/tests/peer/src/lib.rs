@@ -2,17 +2,21 @@
 //! authenticator.
 //!
 //! Written from the papers alone, to be compared call by call with the proved token. Quotations are
-//! document 01's, or document 02's where that amends it. There is no heap and no state: a call is
-//! lent bytes and numbers, and gives a refusal or writes into the caller's outputs. "After these
-//! only statuses follow": nothing is written before the last refusal has been ruled out.
+//! document 01's, or document 02's where that amends it. There is no heap, but for [`form_of`], and
+//! no state: a call is lent bytes and numbers, and gives a refusal or writes into the caller's
+//! outputs. "After these only statuses follow": nothing is written before the last refusal has been
+//! ruled out.
 
 #![no_std]
 #![forbid(unsafe_code)]
 #![warn(missing_docs)]
 
+extern crate alloc;
+
 mod command;
 mod complete;
 mod draft;
+mod form;
 mod lent;
 mod numbers;
 mod params;
@@ -20,12 +24,17 @@ mod reader;
 mod table;
 mod tlv;
 mod value;
+mod writer;
 
 pub use command::command;
 pub use complete::complete;
+pub use form::form_of;
 pub use reader::{read_fields, read_rows, signed_part, Fields, Heading, MOST_FIELDS};
 pub use tlv::Field;
 pub use value::{command_by_value, load, store, RecordValue, TableValue};
+pub use writer::{
+    write_deregister, write_get_info, write_open_settings, write_register, write_sign,
+};
 
 /// "The profile is lent": who the token is.
 ///
@@ -80,6 +89,8 @@ pub enum Refusal {
     Lent = 4,
     /// No draft of this kind, or no response.
     Bytes = 5,
+    /// A field that a command is to be written of breaks its rule, or the command would be too long.
+    Field = 6,
 }
 
 /// What a command wrote into the response output, with its length.

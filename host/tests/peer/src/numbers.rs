@@ -49,6 +49,10 @@ pub(crate) mod limit {
     /// "A username must now be well-formed UTF-8 by RFC 3629, still 1 to 128 bytes."
     pub(crate) const USERNAME: Limit = Limit::Text(1, super::MOST_NAME);
     pub(crate) const CHALLENGE: Limit = Limit::Between(1, 32);
+    pub(crate) const APP_ID: Limit = Limit::Between(1, 512);
+    pub(crate) const ACCESS_TOKEN: Limit = Limit::Between(1, 32);
+    /// "KeyID in Deregister 0 or 32".
+    pub(crate) const KEY_ID_OR_ALL: Limit = Limit::EmptyOr(32);
     pub(crate) const NONCE: Limit = Limit::Between(8, 32);
     pub(crate) const PUBLIC_KEY: Limit = Limit::Between(1, 512);
     pub(crate) const SIGNATURE: Limit = Limit::Between(1, 512);
@@ -73,8 +77,11 @@ pub(crate) const MOST_COMMAND: usize = 8192;
 pub(crate) const MOST_RECORDS: usize = 32;
 /// "a username of 1 to 128 bytes".
 pub(crate) const MOST_NAME: usize = 128;
-/// "at most 8 with one mixed token"; also the most key handles in a Sign.
+/// "at most 8 with one mixed token".
 pub(crate) const MOST_OWN: usize = 8;
+/// "key handle 32 (here it carries a KeyID), at most 8 of them": as many as records of a holder, so
+/// that one kind of list holds either.
+pub(crate) const MOST_HANDLES: usize = MOST_OWN;
 
 /// The index of the only authenticator.
 pub(crate) const INDEX: [u8; 1] = [0];

@@ -38,15 +38,15 @@ impl Rule {
 #[rustfmt::skip]
 const RULES: [Rule; 10] = [
     rule(tag::AUTHENTICATOR_INDEX, Limit::Exactly(1), true, &[Register, Sign, Deregister, OpenSettings]),
-    rule(tag::APPID, Limit::Between(1, 512), false, &[Register, Sign, Deregister]),
+    rule(tag::APPID, limit::APP_ID, false, &[Register, Sign, Deregister]),
     rule(tag::FINAL_CHALLENGE_HASH, limit::CHALLENGE, true, &[Register, Sign]),
     rule(tag::USERNAME, limit::USERNAME, true, &[Register]),
     rule(tag::ATTESTATION_TYPE, Limit::Exactly(2), true, &[Register]),
-    rule(tag::KEYHANDLE_ACCESS_TOKEN, Limit::Between(1, 32), true, &[Register, Sign, Deregister]),
+    rule(tag::KEYHANDLE_ACCESS_TOKEN, limit::ACCESS_TOKEN, true, &[Register, Sign, Deregister]),
     rule(tag::USERVERIFY_TOKEN, Limit::Any, false, &[Register, Sign]),
     rule(tag::TRANSACTION_CONTENT, Limit::Any, false, &[Sign]),
     rule(tag::KEYHANDLE, limit::KEY_ID, false, &[Sign]),
-    rule(tag::KEYID, Limit::EmptyOr(32), true, &[Deregister]),
+    rule(tag::KEYID, limit::KEY_ID_OR_ALL, true, &[Deregister]),
 ];
 
 /// The level of a command's children: "The command itself is level 1".

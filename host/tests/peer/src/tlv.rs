@@ -260,7 +260,7 @@ impl<'a> Writer<'a> {
     }
 
     /// No value written is longer than an output's least size, so 16 bits hold its length.
-    fn header(&mut self, tag: u16, length: usize) {
+    pub(crate) fn header(&mut self, tag: u16, length: usize) {
         let [t0, t1] = tag.to_le_bytes();
         let [l0, l1] = (length as u16).to_le_bytes();
         self.put(&[t0, t1, l0, l1]);

@@ -1,9 +1,76 @@
-//! The four entries as `host/include/uaf_token.h` declares them. Nothing checks these declarations
+//! The nine entries as `host/include/uaf_token.h` declares them. Nothing checks these declarations
 //! against the archive but calling them.
 
 use uaf_peer::MOST_FIELDS;
 
 extern "C" {
+    pub fn uaf_write_get_info(
+        command: *mut u8,
+        command_size: usize,
+        command_length: *mut usize,
+    ) -> u32;
+
+    pub fn uaf_write_register(
+        app_id_given: u32,
+        app_id: *const u8,
+        app_id_size: usize,
+        challenge: *const u8,
+        challenge_size: usize,
+        username: *const u8,
+        username_size: usize,
+        attestation: u32,
+        access_token: *const u8,
+        access_token_size: usize,
+        verify_token_given: u32,
+        verify_token: *const u8,
+        verify_token_size: usize,
+        command: *mut u8,
+        command_size: usize,
+        command_length: *mut usize,
+    ) -> u32;
+
+    pub fn uaf_write_sign(
+        app_id_given: u32,
+        app_id: *const u8,
+        app_id_size: usize,
+        challenge: *const u8,
+        challenge_size: usize,
+        content_given: u32,
+        content: *const u8,
+        content_size: usize,
+        access_token: *const u8,
+        access_token_size: usize,
+        verify_token_given: u32,
+        verify_token: *const u8,
+        verify_token_size: usize,
+        handles: *const u8,
+        handles_size: usize,
+        handle_sizes: *const usize,
+        handle_count: usize,
+        command: *mut u8,
+        command_size: usize,
+        command_length: *mut usize,
+    ) -> u32;
+
+    pub fn uaf_write_deregister(
+        app_id_given: u32,
+        app_id: *const u8,
+        app_id_size: usize,
+        key_id: *const u8,
+        key_id_size: usize,
+        access_token: *const u8,
+        access_token_size: usize,
+        command: *mut u8,
+        command_size: usize,
+        command_length: *mut usize,
+    ) -> u32;
+
+    pub fn uaf_write_open_settings(
+        command: *mut u8,
+        command_size: usize,
+        command_length: *mut usize,
+    ) -> u32;
+
     pub fn uaf_command(
         command: *const u8,
         command_size: usize,

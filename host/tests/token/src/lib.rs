@@ -1,18 +1,19 @@
-//! The token for tests in Rust: its four C entries as safe functions with the signatures and types
+//! The token for tests in Rust: its nine C entries as safe functions with the signatures and types
 //! of `uaf_peer`, so that one can stand in for the other. `raw` has the forms that show what a call
-//! leaves in the numbers lent to it.
+//! leaves in the numbers lent to it; the writers of commands have no other.
 
 mod entries;
 pub mod raw;
 
 use core::ops::Range;
+pub use raw::{write_deregister, write_get_info, write_open_settings, write_register, write_sign};
 use uaf_peer::{Answer, Field, Fields, Lent, Refusal, Served, MOST_FIELDS};
 
 /// `UAF_RESPONSE` and `UAF_DRAFT`.
 pub const RESPONSE: u32 = 0;
 pub const DRAFT: u32 = 1;
 
-/// The refusal of a number other than 0. Any but 1 to 5 is a fault of the token, and panics.
+/// The refusal of a number other than 0. Any but 1 to 6 is a fault of the token, and panics.
 pub fn refusal_of(number: u32) -> Refusal {
     match number {
         1 => Refusal::Output,
@@ -20,6 +21,7 @@ pub fn refusal_of(number: u32) -> Refusal {
         3 => Refusal::Command,
         4 => Refusal::Lent,
         5 => Refusal::Bytes,
+        6 => Refusal::Field,
         _ => panic!("{} is no refusal", number),
     }
 }

@@ -135,3 +135,121 @@ pub fn read_fields(response: &[u8], numbers: &mut FieldNumbers) -> u32 {
         )
     }
 }
+
+/// `uaf_write_get_info`; gives 0 or the refusal.
+pub fn write_get_info(command: &mut [u8], command_length: &mut usize) -> u32 {
+    // Safety: as in `command`.
+    unsafe { entries::uaf_write_get_info(command.as_mut_ptr(), command.len(), command_length) }
+}
+
+/// `uaf_write_register`; gives 0 or the refusal.
+#[allow(clippy::too_many_arguments)]
+pub fn write_register(
+    app_id_given: u32,
+    app_id: &[u8],
+    challenge: &[u8],
+    username: &[u8],
+    attestation: u32,
+    access_token: &[u8],
+    verify_token_given: u32,
+    verify_token: &[u8],
+    command: &mut [u8],
+    command_length: &mut usize,
+) -> u32 {
+    // Safety: as in `command`.
+    unsafe {
+        entries::uaf_write_register(
+            app_id_given,
+            app_id.as_ptr(),
+            app_id.len(),
+            challenge.as_ptr(),
+            challenge.len(),
+            username.as_ptr(),
+            username.len(),
+            attestation,
+            access_token.as_ptr(),
+            access_token.len(),
+            verify_token_given,
+            verify_token.as_ptr(),
+            verify_token.len(),
+            command.as_mut_ptr(),
+            command.len(),
+            command_length,
+        )
+    }
+}
+
+/// `uaf_write_sign`; gives 0 or the refusal.
+#[allow(clippy::too_many_arguments)]
+pub fn write_sign(
+    app_id_given: u32,
+    app_id: &[u8],
+    challenge: &[u8],
+    content_given: u32,
+    content: &[u8],
+    access_token: &[u8],
+    verify_token_given: u32,
+    verify_token: &[u8],
+    handles: &[u8],
+    handle_sizes: &[usize],
+    command: &mut [u8],
+    command_length: &mut usize,
+) -> u32 {
+    // Safety: as in `command`; the lengths of handles are an array of as many elements.
+    unsafe {
+        entries::uaf_write_sign(
+            app_id_given,
+            app_id.as_ptr(),
+            app_id.len(),
+            challenge.as_ptr(),
+            challenge.len(),
+            content_given,
+            content.as_ptr(),
+            content.len(),
+            access_token.as_ptr(),
+            access_token.len(),
+            verify_token_given,
+            verify_token.as_ptr(),
+            verify_token.len(),
+            handles.as_ptr(),
+            handles.len(),
+            handle_sizes.as_ptr(),
+            handle_sizes.len(),
+            command.as_mut_ptr(),
+            command.len(),
+            command_length,
+        )
+    }
+}
+
+/// `uaf_write_deregister`; gives 0 or the refusal.
+pub fn write_deregister(
+    app_id_given: u32,
+    app_id: &[u8],
+    key_id: &[u8],
+    access_token: &[u8],
+    command: &mut [u8],
+    command_length: &mut usize,
+) -> u32 {
+    // Safety: as in `command`.
+    unsafe {
+        entries::uaf_write_deregister(
+            app_id_given,
+            app_id.as_ptr(),
+            app_id.len(),
+            key_id.as_ptr(),
+            key_id.len(),
+            access_token.as_ptr(),
+            access_token.len(),
+            command.as_mut_ptr(),
+            command.len(),
+            command_length,
+        )
+    }
+}
+
+/// `uaf_write_open_settings`; gives 0 or the refusal.
+pub fn write_open_settings(command: &mut [u8], command_length: &mut usize) -> u32 {
+    // Safety: as in `command`.
+    unsafe { entries::uaf_write_open_settings(command.as_mut_ptr(), command.len(), command_length) }
+}

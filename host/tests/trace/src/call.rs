@@ -188,3 +188,121 @@ impl Completion {
         ]
     }
 }
+
+/// The commands, by the numbers that a script gives them.
+#[derive(Clone, Copy, PartialEq, Eq, Debug)]
+pub enum Kind {
+    GetInfo,
+    Register,
+    Sign,
+    Deregister,
+    OpenSettings,
+}
+
+/// A field that may be left away, and its mark.
+pub type Marked = (u32, Vec<u8>);
+
+/// What the writer of a command is lent: the fields that the command lists.
+#[derive(Clone)]
+pub struct Writing {
+    pub kind: Kind,
+    pub app_id: Marked,
+    pub challenge: Vec<u8>,
+    pub username: Vec<u8>,
+    pub attestation: u32,
+    pub content: Marked,
+    pub key_id: Vec<u8>,
+    pub access_token: Vec<u8>,
+    pub verify_token: Marked,
+    pub handles: Vec<u8>,
+    pub handle_sizes: Vec<u32>,
+    pub command_size: u32,
+}
+
+impl Writing {
+    /// In the order in which a script sets them, which is the writer's.
+    pub fn arguments(&self) -> Vec<Argument> {
+        let sizes = self.handle_sizes.iter();
+        let sizes: Vec<u8> = sizes.flat_map(|size| size.to_le_bytes()).collect();
+        let app_id = [number('B', self.app_id.0), bytes('A', &self.app_id.1)];
+        let access_token = [bytes('K', &self.access_token)];
+        let verify_token = [
+            number('W', self.verify_token.0),
+            bytes('V', &self.verify_token.1),
+        ];
+        let fields = match self.kind {
+            Kind::GetInfo | Kind::OpenSettings => vec![],
+            Kind::Register => {
+                let own = [
+                    bytes('C', &self.challenge),
+                    bytes('U', &self.username),
+                    number('y', self.attestation),
+                ];
+                [&app_id[..], &own, &access_token, &verify_token].concat()
+            }
+            Kind::Sign => {
+                let own = [
+                    bytes('C', &self.challenge),
+                    number('S', self.content.0),
+                    bytes('T', &self.content.1),
+                ];
+                let handles = [bytes('H', &self.handles), bytes('L', &sizes)];
+                [&app_id[..], &own, &access_token, &verify_token, &handles].concat()
+            }
+            Kind::Deregister => {
+                let own = [bytes('k', &self.key_id)];
+                [&app_id[..], &own, &access_token].concat()
+            }
+        };
+        let kind = [number('j', self.kind as u32)];
+        let output = [number('o', self.command_size)];
+        [&kind[..], &fields, &output].concat()
+    }
+
+    /// Writes it by the peer. Gives 0 or the refusal.
+    pub fn write(&self, command: &mut [u8], length: &mut usize) -> u32 {
+        let sizes: Vec<usize> = self
+            .handle_sizes
+            .iter()
+            .map(|&size| size as usize)
+            .collect();
+        match self.kind {
+            Kind::GetInfo => uaf_peer::write_get_info(command, length),
+            Kind::Register => uaf_peer::write_register(
+                self.app_id.0,
+                &self.app_id.1,
+                &self.challenge,
+                &self.username,
+                self.attestation,
+                &self.access_token,
+                self.verify_token.0,
+                &self.verify_token.1,
+                command,
+                length,
+            ),
+            Kind::Sign => uaf_peer::write_sign(
+                self.app_id.0,
+                &self.app_id.1,
+                &self.challenge,
+                self.content.0,
+                &self.content.1,
+                &self.access_token,
+                self.verify_token.0,
+                &self.verify_token.1,
+                &self.handles,
+                &sizes,
+                command,
+                length,
+            ),
+            Kind::Deregister => uaf_peer::write_deregister(
+                self.app_id.0,
+                &self.app_id.1,
+                &self.key_id,
+                &self.access_token,
+                command,
+                length,
+            ),
+            Kind::OpenSettings => uaf_peer::write_open_settings(command, length),
+        }
+    }
+}

@@ -19,6 +19,7 @@ mod refusals;
 mod registrations;
 mod script;
 mod signatures;
+mod writings;
 
 use script::Trace;
 use std::path::Path;
@@ -52,6 +53,7 @@ fn trace() -> Trace {
     forms::by_value(&mut t, &COMMANDS);
     forms::spoilt(&mut t);
     forms::mixed(&mut t);
+    writings::writings(&mut t);
     t
 }
 

@@ -2,7 +2,7 @@
 //! are what the peer answers to the same calls.
 
 use crate::bytes::hex;
-use crate::call::{spoil, Argument, Call, Completion};
+use crate::call::{spoil, Argument, Call, Completion, Writing};
 use crate::output::{sum, Output};
 use std::collections::BTreeMap;
 use uaf_peer::{Answer, Fields, Refusal, MOST_FIELDS};
@@ -174,6 +174,23 @@ impl Trace {
         }
     }
 
+    /// Writes a command, which is what is run next. Gives it, nothing after a refusal.
+    pub fn write(&mut self, name: &str, writing: &Writing) -> Vec<u8> {
+        self.set(writing.arguments());
+        self.script.push(format!("+ {name}"));
+        let (mut command, mut length) = (Output::new(writing.command_size), UNSET);
+        let refusal = writing.write(&mut command.0, &mut length);
+        if refusal != 0 {
+            let kept = command.whole_sum();
+            self.expect(name, &format!("refusal {refusal} {length} {kept}"));
+            return vec![];
+        }
+        self.expect(name, &format!("written {}", command.written(length, true)));
+        command.0.truncate(length);
+        self.set.insert('c', command.0.clone());
+        command.0
+    }
+
     /// Reads the response that lies there. Gives whether it is one.
     pub fn read_this(&mut self, name: &str, response: &[u8]) -> bool {
         self.script.push(format!("< {name}"));
@@ -243,4 +260,63 @@ fn not_read(refusal: Refusal) -> String {
         "signed {number} {UNSET} {UNSET} part {number} 0 1 \
          list {number} {UNSET} {UNSET} {UNSET} {rows} {rows} {rows}"
     )
+}
+
+#[cfg(test)]
+mod tests {
+    use super::Trace;
+    use crate::call::{of, Kind, Writing};
+
+    fn settings(command_size: u32) -> Writing {
+        Writing {
+            kind: Kind::OpenSettings,
+            app_id: (0, vec![]),
+            challenge: vec![],
+            username: vec![],
+            attestation: 0,
+            content: (0, vec![]),
+            key_id: vec![],
+            access_token: vec![],
+            verify_token: (0, vec![]),
+            handles: vec![],
+            handle_sizes: vec![],
+            command_size,
+        }
+    }
+
+    /// The sums are zlib's.
+    #[test]
+    fn what_is_printed_of_a_writer() {
+        let mut t = Trace::default();
+        t.write("longer", &settings(12));
+        t.write("short", &settings(8));
+        assert_eq!(
+            t.expected,
+            [
+                "longer: written 9 48627830 93782731 063405000D28010000",
+                "short: refusal 1 77 562038641",
+            ]
+        );
+        assert_eq!(
+            t.script,
+            [
+                "j 04000000",
+                "o 0C000000",
+                "+ longer",
+                "o 08000000",
+                "+ short"
+            ]
+        );
+    }
+
+    /// The command that was written is not set again to be run, also after a refusal.
+    #[test]
+    fn a_written_command_is_run() {
+        let mut t = Trace::default();
+        let command = t.write("write", &settings(9));
+        t.write("refused", &settings(0));
+        t.run("run", of(command));
+        assert!(t.script.iter().all(|line| !line.starts_with("c ")));
+        assert!(t.expected[2].starts_with("run: response 10 "));
+    }
 }

@@ -1,0 +1,3 @@
+-- What the writers count and write, in the words of `model`.
+pub mod Lengths
+pub mod Parts

@@ -1,0 +1,141 @@
+-- Request A2 of document 02: each command as its writer writes it, byte for byte; each rule of a field at its limit and one past it; the refusals in
+-- their order; and the form of a command.
+-- Assumes nothing.
+use mathlib.Core.Path.{refl}
+use mathlib.Core.List.{List, [], _∷_, _++_, map}
+use Prim.Native.Nat.{ℕ}
+use lib.ListN.{replicate}
+use Rattle.model.specs.Tlv.{sign}
+use Rattle.model.specs.Commands.{Result, refused, gave}
+use Rattle.model.specs.Writer.{Wanted, toGetInfo, toRegister, toSign, toDeregister, toOpenSettings, writeCommand, formOf}
+use Rattle.model.proofs.Computing.{computing}
+use Rattle.model.proofs.Witness.{zeros, byte}
+use Rattle.examples.proofs.Limits.{Line, _gives_, Holds, holds}
+
+-- the command, or the number of the refusal alone
+abbrev bytesOr : Result (List ℕ) → List ℕ
+bytesOr (refused n) = n ∷ []
+bytesOr (gave s) = s
+
+-- ---- each command, into an output that is just long enough: P1, P6, P7 and P8 of document 01, then commands with all that they list, children in the
+-- order of 001's tables. Content that is given and empty is written, one that is not given is not; a handle that is given twice is written twice
+
+abbrev aa : List ℕ
+aa = 0xAA ∷ []
+
+abbrev key : ℕ → List ℕ
+key k = replicate 32 k
+
+abbrev handle : ℕ → List ℕ
+handle k = 0x01 ∷ 0x28 ∷ 0x20 ∷ 0x00 ∷ key k
+
+abbrev plainSign : List ℕ
+plainSign = 0x0D ∷ 0x28 ∷ 0x01 ∷ 0x00 ∷ 0x00 ∷ 0x0A ∷ 0x2E ∷ 0x01 ∷ 0x00 ∷ 0xAA ∷ 0x05 ∷ 0x28 ∷ 0x01 ∷ 0x00 ∷ 0xAA ∷ []
+
+abbrev commandLines : List Line
+commandLines =
+    bytesOr (writeCommand toGetInfo 4) gives (0x01 ∷ 0x34 ∷ 0x00 ∷ 0x00 ∷ [])
+    ∷ bytesOr (writeCommand toOpenSettings 9) gives (0x06 ∷ 0x34 ∷ 0x05 ∷ 0x00 ∷ 0x0D ∷ 0x28 ∷ 0x01 ∷ 0x00 ∷ 0x00 ∷ [])
+    ∷ bytesOr (writeCommand (toDeregister 0 [] [] aa) 18) gives
+    (0x04 ∷ 0x34 ∷ 0x0E ∷ 0x00 ∷ 0x0D ∷ 0x28 ∷ 0x01 ∷ 0x00 ∷ 0x00 ∷ 0x09 ∷ 0x2E ∷ 0x00 ∷ 0x00 ∷ 0x05 ∷ 0x28 ∷ 0x01 ∷ 0x00 ∷ 0xAA ∷ [])
+    ∷ bytesOr (writeCommand (toSign 0 [] aa 0 [] aa 0 [] [] []) 19) gives (0x03 ∷ 0x34 ∷ 0x0F ∷ 0x00 ∷ plainSign)
+    ∷ bytesOr (writeCommand (toRegister 1 (0x61 ∷ []) aa (0x41 ∷ 0x6E ∷ []) 0x3E07 aa 1 (0x56 ∷ [])) 41) gives
+    (0x02 ∷ 0x34 ∷ 0x25 ∷ 0x00 ∷ 0x0D ∷ 0x28 ∷ 0x01 ∷ 0x00 ∷ 0x00 ∷ 0x04 ∷ 0x28 ∷ 0x01 ∷ 0x00 ∷ 0x61 ∷ 0x0A ∷ 0x2E ∷ 0x01 ∷ 0x00 ∷ 0xAA
+    ∷ 0x06 ∷ 0x28 ∷ 0x02 ∷ 0x00 ∷ 0x41 ∷ 0x6E ∷ 0x07 ∷ 0x28 ∷ 0x02 ∷ 0x00 ∷ 0x07 ∷ 0x3E ∷ 0x05 ∷ 0x28 ∷ 0x01 ∷ 0x00 ∷ 0xAA
+    ∷ 0x03 ∷ 0x28 ∷ 0x01 ∷ 0x00 ∷ 0x56 ∷ [])
+    ∷ bytesOr (writeCommand (toSign 1 (0x61 ∷ []) aa 1 [] aa 1 (0x56 ∷ []) (key 0xBB ++ (key 0xB0 ++ key 0xBB)) (32 ∷ 32 ∷ 32 ∷ [])) 141) gives
+    (0x03 ∷ 0x34 ∷ 0x89 ∷ 0x00 ∷ 0x0D ∷ 0x28 ∷ 0x01 ∷ 0x00 ∷ 0x00 ∷ 0x04 ∷ 0x28 ∷ 0x01 ∷ 0x00 ∷ 0x61 ∷ 0x0A ∷ 0x2E ∷ 0x01 ∷ 0x00 ∷ 0xAA
+    ∷ 0x10 ∷ 0x28 ∷ 0x00 ∷ 0x00 ∷ 0x05 ∷ 0x28 ∷ 0x01 ∷ 0x00 ∷ 0xAA ∷ 0x03 ∷ 0x28 ∷ 0x01 ∷ 0x00 ∷ 0x56
+    ∷ handle 0xBB ++ (handle 0xB0 ++ handle 0xBB))
+    ∷ bytesOr (writeCommand (toDeregister 1 (0x61 ∷ []) (key 0xBB) aa) 55) gives
+    (0x04 ∷ 0x34 ∷ 0x33 ∷ 0x00 ∷ 0x0D ∷ 0x28 ∷ 0x01 ∷ 0x00 ∷ 0x00 ∷ 0x04 ∷ 0x28 ∷ 0x01 ∷ 0x00 ∷ 0x61 ∷ 0x09 ∷ 0x2E ∷ 0x20 ∷ 0x00
+    ∷ key 0xBB ++ (0x05 ∷ 0x28 ∷ 0x01 ∷ 0x00 ∷ 0xAA ∷ []))
+    ∷ []
+
+pub each-command : Holds commandLines
+unfolding computing
+each-command = holds commandLines refl
+
+-- ---- each rule at its limits and past them: 0 for a command, else the refusal
+
+abbrev read : Result (List ℕ) → ℕ
+read (refused n) = n
+read (gave s) = 0
+
+abbrev says : List Wanted → ℕ → List ℕ
+says ws n = map (λ w. read (writeCommand w n)) ws
+
+-- a Register, a Sign and a Deregister with the least that they must have, but for these
+abbrev forApp : ℕ → List ℕ → Wanted
+forApp mark v = toRegister mark v byte byte 0 byte 0 []
+
+abbrev forChallenge : List ℕ → Wanted
+forChallenge v = toRegister 0 [] v byte 0 byte 0 []
+
+abbrev forName : List ℕ → Wanted
+forName v = toRegister 0 [] byte v 0 byte 0 []
+
+abbrev forType : ℕ → Wanted
+forType n = toRegister 0 [] byte byte n byte 0 []
+
+abbrev forToken : List ℕ → Wanted
+forToken v = toRegister 0 [] byte byte 0 v 0 []
+
+abbrev forVerify : ℕ → List ℕ → Wanted
+forVerify mark v = toRegister 0 [] byte byte 0 byte mark v
+
+abbrev forContent : ℕ → List ℕ → Wanted
+forContent mark v = toSign 0 [] byte mark v byte 0 [] [] []
+
+abbrev forKey : List ℕ → Wanted
+forKey v = toDeregister 0 [] v byte
+
+abbrev forHandles : List ℕ → List ℕ → Wanted
+forHandles hs ns = toSign 0 [] byte 0 [] byte 0 [] hs ns
+
+abbrev ruleLines : List Line
+ruleLines =
+    says (forApp 1 [] ∷ forApp 1 byte ∷ forApp 1 (zeros 512) ∷ forApp 1 (zeros 513) ∷ forApp 0 (zeros 513) ∷ forApp 2 byte ∷ []) 8192
+    gives (6 ∷ 0 ∷ 0 ∷ 6 ∷ 0 ∷ 6 ∷ [])
+    ∷ says (forChallenge [] ∷ forChallenge byte ∷ forChallenge (zeros 32) ∷ forChallenge (zeros 33) ∷ []) 8192 gives (6 ∷ 0 ∷ 0 ∷ 6 ∷ [])
+    ∷ says (forName [] ∷ forName byte ∷ forName (zeros 128) ∷ forName (zeros 129) ∷ forName (0x80 ∷ []) ∷ forName (0xC3 ∷ 0xA9 ∷ []) ∷ []) 8192
+    gives (6 ∷ 0 ∷ 0 ∷ 6 ∷ 6 ∷ 0 ∷ [])
+    ∷ says (forType 0 ∷ forType 65535 ∷ forType 65536 ∷ []) 8192 gives (0 ∷ 0 ∷ 6 ∷ [])
+    ∷ says (forToken [] ∷ forToken byte ∷ forToken (zeros 32) ∷ forToken (zeros 33) ∷ []) 8192 gives (6 ∷ 0 ∷ 0 ∷ 6 ∷ [])
+    ∷ says (forVerify 0 [] ∷ forVerify 1 [] ∷ forVerify 2 [] ∷ forVerify 256 [] ∷ []) 8192 gives (0 ∷ 0 ∷ 6 ∷ 6 ∷ [])
+    ∷ says (forContent 0 [] ∷ forContent 1 [] ∷ forContent 2 [] ∷ []) 8192 gives (0 ∷ 0 ∷ 6 ∷ [])
+    ∷ says (forKey [] ∷ forKey byte ∷ forKey (zeros 31) ∷ forKey (zeros 32) ∷ forKey (zeros 33) ∷ []) 8192 gives (0 ∷ 6 ∷ 6 ∷ 0 ∷ 6 ∷ [])
+    ∷ says (forHandles (zeros 256) (replicate 8 32) ∷ forHandles (zeros 288) (replicate 9 32) ∷ forHandles (zeros 64) (31 ∷ 33 ∷ [])
+    ∷ forHandles (zeros 33) (32 ∷ []) ∷ forHandles (zeros 63) (32 ∷ 32 ∷ []) ∷ forHandles (zeros 32) [] ∷ forHandles [] (32 ∷ []) ∷ []) 8192
+    gives (0 ∷ 6 ∷ 6 ∷ 6 ∷ 6 ∷ 6 ∷ 6 ∷ [])
+    ∷ []
+
+pub each-rule : Holds ruleLines
+unfolding computing
+each-rule = holds ruleLines refl
+
+-- 6 comes before 1: outputs that are just long enough, one byte short, and empty, for a token of one byte and for one of none
+abbrev orderLines : List Line
+orderLines =
+    says (forToken byte ∷ forToken [] ∷ []) 30 gives (0 ∷ 6 ∷ [])
+    ∷ says (forToken byte ∷ forToken [] ∷ []) 29 gives (1 ∷ 6 ∷ [])
+    ∷ says (toGetInfo ∷ toOpenSettings ∷ forToken byte ∷ forToken [] ∷ []) 0 gives (1 ∷ 1 ∷ 1 ∷ 6 ∷ [])
+    ∷ []
+
+pub six-before-one : Holds orderLines
+unfolding computing
+six-before-one = holds orderLines refl
+
+-- ---- the form of a Sign whose children come in another order, with a tag that is skipped: P8
+
+abbrev formLines : List Line
+formLines =
+    formOf sign
+    (0x03 ∷ 0x34 ∷ 0x14 ∷ 0x00 ∷ 0x05 ∷ 0x28 ∷ 0x01 ∷ 0x00 ∷ 0xAA ∷ 0xFF ∷ 0x0F ∷ 0x01 ∷ 0x00 ∷ 0x78 ∷ 0x0D ∷ 0x28 ∷ 0x01 ∷ 0x00 ∷ 0x00
+    ∷ 0x0A ∷ 0x2E ∷ 0x01 ∷ 0x00 ∷ 0xAA ∷ [])
+    gives (0x03 ∷ 0x34 ∷ 0x0F ∷ 0x00 ∷ plainSign)
+    ∷ []
+
+pub form-of : Holds formLines
+unfolding computing
+form-of = holds formLines refl
