@@ -1,11 +1,13 @@
 -- Request A2 of document 02: each command as its writer writes it, byte for byte; each rule of a field at its limit and one past it; the refusals in
 -- their order; and the form of a command.
 -- Assumes nothing.
-use mathlib.Core.Path.{refl}
+use mathlib.Core.Path.{_≡_, refl}
+use mathlib.Core.Bool.{true, false}
 use mathlib.Core.List.{List, [], _∷_, _++_, map}
+use mathlib.Core.Option.{some}
 use Prim.Native.Nat.{ℕ}
 use lib.ListN.{replicate}
-use Rattle.model.specs.Tlv.{sign}
+use Rattle.model.specs.Tlv.{getInfo, sign, openSettings, kindOf, broken}
 use Rattle.model.specs.Commands.{Result, refused, gave}
 use Rattle.model.specs.Writer.{Wanted, toGetInfo, toRegister, toSign, toDeregister, toOpenSettings, writeCommand, formOf}
 use Rattle.model.proofs.Computing.{computing}
@@ -139,3 +141,22 @@ formLines =
 pub form-of : Holds formLines
 unfolding computing
 form-of = holds formLines refl
+
+-- ---- what the laws ask is needed. A Sign with an empty AppID is its own form and breaks a rule, so no writer writes it (in-range). And the children of an
+-- Open settings under the outer tag of GetInfo have as their form an Open settings, which is another command (has-form)
+
+abbrev emptyApp : List ℕ
+emptyApp =
+    0x03 ∷ 0x34 ∷ 0x13 ∷ 0x00 ∷ 0x0D ∷ 0x28 ∷ 0x01 ∷ 0x00 ∷ 0x00 ∷ 0x04 ∷ 0x28 ∷ 0x00 ∷ 0x00 ∷ 0x0A ∷ 0x2E ∷ 0x01 ∷ 0x00 ∷ 0xAA
+    ∷ 0x05 ∷ 0x28 ∷ 0x01 ∷ 0x00 ∷ 0xAA ∷ []
+
+pub unbroken-needed : (formOf sign emptyApp ≡ emptyApp) × (broken sign emptyApp ≡ true)
+unfolding computing
+unbroken-needed = (refl, refl)
+
+abbrev underInfo : List ℕ
+underInfo = 0x01 ∷ 0x34 ∷ 0x05 ∷ 0x00 ∷ 0x0D ∷ 0x28 ∷ 0x01 ∷ 0x00 ∷ 0x00 ∷ []
+
+pub kind-needed : (broken openSettings underInfo ≡ false) × (kindOf underInfo ≡ some getInfo) × (kindOf (formOf openSettings underInfo) ≡ some openSettings)
+unfolding computing
+kind-needed = (refl, refl, refl)

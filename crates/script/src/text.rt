@@ -76,6 +76,19 @@ pub fn write_written(s: &[u8], n: usize, whole: bool) {
     }
 }
 
+// What a call with one output gave: after a refusal its number, the length and a sum of the output; else this word, and what was written.
+pub fn write_given(word: &[u8], code: u32, len: usize, output: &[u8]) {
+    if code != 0 {
+        io::write_all(1, b"refusal");
+        write_next(code as usize);
+        write_next(len);
+        write_next(adler(output));
+        return;
+    }
+    io::write_all(1, word);
+    write_written(output, len, true);
+}
+
 // Adler-32, which tells stretches apart in a short line.
 pub fn adler(s: &[u8]) -> usize
     ensures { λ r. ⌜ r ≡ adlerFrom 1 0 (now (s .entry)) ⌝ }

@@ -16,24 +16,11 @@ use script::slots::arg;
 use script::slots::number;
 use script::slots::store;
 use script::text::adler;
+use script::text::write_given;
 use script::text::write_next;
-use script::text::write_written;
 use token::responses::uaf_complete;
 use token::responses::uaf_read_fields;
 use token::responses::uaf_signed_part;
-
-// After a refusal the length, and a sum of the output; else the response.
-fn tell_completed(code: u32, len: usize, response: &[u8]) {
-    if code != 0 {
-        io::write_all(1, b"refusal");
-        write_next(code as usize);
-        write_next(len);
-        write_next(adler(response));
-        return;
-    }
-    io::write_all(1, b"completed");
-    write_written(response, len, true);
-}
 
 // Completes a draft, writes its line and keeps the response. The output is the first bytes of a stretch.
 fn complete_in(name: &[u8], mem: &mut [u8], response: &mut [u8]) {
@@ -41,6 +28,7 @@ fn complete_in(name: &[u8], mem: &mut [u8], response: &mut [u8]) {
     if response.len() < n {
         return;
     }
+    let response = &mut response[0..n];
     let kind = number(mem, KIND) as u32;
     let attestation = number(mem, TYPE) as u32;
     let mut len = UNSET;
@@ -50,17 +38,17 @@ fn complete_in(name: &[u8], mem: &mut [u8], response: &mut [u8]) {
         attestation,
         arg(mem, SIGNATURE),
         arg(mem, CERTIFICATE),
-        &mut response[0..n],
+        response,
         &mut len,
     );
     io::write_all(1, name);
     io::write_all(1, b": ");
-    tell_completed(code, len, &response[0..n]);
+    write_given(b"completed", code, len, response);
     io::write_all(1, b"\n");
     if code != 0 {
         return;
     }
-    store(&response[0..n], len, READ, mem);
+    store(response, len, READ, mem);
 }
 
 // Completes a draft into an output of its own, writes its line and keeps the response to be read.

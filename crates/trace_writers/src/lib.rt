@@ -21,9 +21,7 @@ use script::slots::VERIFY_TOKEN_GIVEN;
 use script::slots::arg;
 use script::slots::number;
 use script::slots::store;
-use script::text::adler;
-use script::text::write_next;
-use script::text::write_written;
+use script::text::write_given;
 use tlv::numbers::get32;
 use token::writers::uaf_write_deregister;
 use token::writers::uaf_write_get_info;
@@ -151,19 +149,6 @@ fn write_kind(mem: &[u8], command: &mut [u8]) -> Given {
     }
 }
 
-// After a refusal the length, and a sum of the output; else the command.
-fn tell_given(code: u32, len: usize, command: &[u8]) {
-    if code != 0 {
-        io::write_all(1, b"refusal");
-        write_next(code as usize);
-        write_next(len);
-        write_next(adler(command));
-        return;
-    }
-    io::write_all(1, b"written");
-    write_written(command, len, true);
-}
-
 // Writes a command into the first bytes of a stretch, says so and keeps it.
 fn write_in(name: &[u8], mem: &mut [u8], output: &mut [u8]) {
     let n = number(mem, RESPONSE_LENGTH);
@@ -174,7 +159,7 @@ fn write_in(name: &[u8], mem: &mut [u8], output: &mut [u8]) {
     let g = write_kind(mem, command);
     io::write_all(1, name);
     io::write_all(1, b": ");
-    tell_given(g.code, g.len, command);
+    write_given(b"written", g.code, g.len, command);
     io::write_all(1, b"\n");
     if g.code != 0 {
         return;
