@@ -1,5 +1,5 @@
 /* The token's exported entries: the command machine of a FIDO UAF first-factor roaming authenticator. What they give is proved, byte for byte,
- * to be what document 01 defines; that this header declares each entry as it is compiled is not proved, and is tested by calling each through
+ * to be what documents 01 and 02 define; that this header declares each entry as it is compiled is not proved, and is tested by calling each through
  * it (host/tests/header).
  *
  * Stretches. A stretch is a pointer and a length in bytes, at most PTRDIFF_MAX. Where the length is 0 the pointer is not followed: it may be NULL.
@@ -46,7 +46,7 @@ extern "C" {
 /* Refusals, statuses and tags stand in a list each, one X(NAME, number) for each of them. From these are made, below, the constants
  * UAF_REFUSED_NAME, UAF_STATUS_NAME and UAF_TAG_NAME, and the functions that give names for a log. */
 
-/* Refusals. Document 01 has numbers for them and no names, so uaf_refusal_name gives what each means. */
+/* Refusals. The papers have numbers for them and no names, so uaf_refusal_name gives what each means. */
 #define UAF_REFUSALS(X) \
     X(OUTPUT, 1, "an output is too short") \
     X(TABLE, 2, "the stored table breaks a rule") \

@@ -15,7 +15,7 @@ ghost use Rattle.params.specs.Slots.{slotField};
 ghost use Rattle.command_writer.specs.Lengths.{takes, refusalOf};
 
 // A mark beside a field that may be left away. Any other number is no mark.
-pub const NOT_GIVEN: u32 = 0;
+const NOT_GIVEN: u32 = 0;
 
 pub const GIVEN: u32 = 1;
 
@@ -29,7 +29,7 @@ const PAST_16_BITS: u32 = 65536;
 // A key handle, and a header with one.
 pub const HANDLE: usize = 32;
 
-pub const HEADER_AND_HANDLE: usize = 36;
+const HEADER_AND_HANDLE: usize = 36;
 
 // Of a field that breaks its rule.
 const TOO_LONG: usize = MAX_COMMAND + 1;

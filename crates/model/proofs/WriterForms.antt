@@ -206,6 +206,10 @@ own-form w n s e =
     let r : Written (wantedKind w) (wantedValues w) s = written (wantedKind w) (wantedValues w) n s e in
     (r .names, r .breaks-none, rw (r .yields) (gave-command (wantedKind w) (wantedValues w) n s e .2))
 
+-- with the values of a command it is the form of that command, so there is one only
+pub only-form : (w : Wanted) (n : ℕ) (s u : List ℕ) → writeCommand w n ≡ gave u → SameValues (wantedKind w) s u → u ≡ formOf (wantedKind w) s
+only-form w n s u e v = sym (same-form (wantedKind w) s u v ∙ own-form w n u e .2)
+
 -- ---- and all that they write: the values of every accepted command can be lent to them
 
 one-given : (vs : List (List ℕ)) → 1 ≤ length vs → length vs ≤ 1 → one (getD vs 0 []) ≡ some vs

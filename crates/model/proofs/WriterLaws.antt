@@ -11,10 +11,10 @@ use lib.ListN.{length}
 use lib.Dec.{leb, ltb, eqb}
 use borrow.Author.Tests.{eqb-true, eqb-false, eq-eqb, ne-eqb, leb-true, leb-false, le-leb, lt-leb, ltb-true, lt-ltb, le-ltb, not-true}
 use Rattle.model.specs.Lists.{all, given, eqBytes}
-use Rattle.model.specs.Tlv.{Tlv, tlv, Kind, getInfo, register, sign, deregister, openSettings, Field, tagOf, fits, Listed, fieldsOf, listed, valuesOf, timesAllowed, timesOk, childrenOk, children, kindOf, broken, fieldsIn, maxCommand}
+use Rattle.model.specs.Tlv.{le, Tlv, tlv, bytes, Kind, getInfo, register, sign, deregister, openSettings, Field, tagOf, fits, Listed, fieldsOf, listed, valuesOf, timesAllowed, timesOk, childrenOk, children, kindOf, broken, fieldsIn, maxCommand}
 use Rattle.model.specs.Commands.{Call, Given, kind, judge, refused, gave, refusals, Effect, outcome}
 use Rattle.model.specs.Complete.{outputOf}
-use Rattle.model.specs.Writer.{Values, marked, pieces, Wanted, toSign, wantedValues, childrenFor, commandOf, valuesOk, eachOk, writable, writeValues, writeCommand, valuesIn}
+use Rattle.model.specs.Writer.{Values, one, marked, pieces, Wanted, toGetInfo, toSign, toOpenSettings, wantedValues, childrenFor, commandOf, valuesOk, eachOk, writable, writeValues, writeCommand, valuesIn}
 use Rattle.model.proofs.Basics.{split, clash, impossible, up-to, and-left, and-right, both, all-append, Each, all-each, each-all, each-same, judged-each}
 use Rattle.model.proofs.Tlvs.{Sized}
 use Rattle.model.proofs.Kept.{statusOf, Accepted, accepted}
@@ -327,6 +327,14 @@ pub written : (k : Kind) (vss : List Values) (n : ℕ) (s : List ℕ) → writeV
 written k vss n s e =
     let (w, h, f) = gave-command k vss n s e in
     rw f at (written-of k vss w)
+
+-- GetInfo and Open settings are lent nothing that could break a rule
+pub never-6 : (n : ℕ) → (writeCommand toGetInfo n ≡ refused 6 → ⊥) × (writeCommand toOpenSettings n ≡ refused 6 → ⊥)
+unfolding writable eachOk commandOf childrenFor bytes le fits eqBytes
+never-6 n = (
+  (λ e. clash refl (not-writable getInfo [] (refused-6 getInfo [] n e))),
+  (λ e. clash refl (not-writable openSettings (one (0 ∷ []) ∷ []) (refused-6 openSettings (one (0 ∷ []) ∷ []) n e))),
+)
 
 -- ---- a call with it
 

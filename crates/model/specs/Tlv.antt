@@ -241,6 +241,7 @@ upTo n f = record { field = f; least = 0; most = n }
 abbrev pub optional : Field → Listed
 optional f = upTo 1 f
 
+-- in the order of 001's tables, in which Writer writes them
 abbrev pub fieldsOf : Kind → List Listed
 fieldsOf getInfo = []
 fieldsOf register =
