@@ -1,21 +1,22 @@
 -- Key handles that run together: the lengths beside them are all 32 and add up, and the handles stand one after another.
 -- Assumes nothing.
-use mathlib.Core.Path.{_≡_, refl, sym, ap, _∙_}
+use mathlib.Core.Path.{_≡_, refl, ap, _∙_}
 use mathlib.Core.Bool.{Bool, true, false}
 use mathlib.Core.List.{List, [], _∷_, _++_, map}
-use mathlib.Core.Option.{none, some, map-eq-some-iff}
+use mathlib.Core.Option.{none, some}
 use Prim.Native.Nat.{ℕ, zero, suc, _+_, _*_, _-_, _≤_, _<_}
 use native.Mathlib.Numerals.{add-one}
 use native.Mathlib.Omega.{arith}
-use lib.ListN.{length, getD, take, drop, length-drop, drop-of-length-le}
+use lib.ListN.{length, getD, take, drop, length-append, length-map, length-drop, drop-of-length-le}
 use lib.Seq.{length-take-le, drop-cons, drop-drop}
 use lib.Dec.{leb, eqb}
 use borrow.Author.Tests.{leb-true, le-leb, eqb-true, eq-eqb, ne-eqb}
-use Rattle.model.specs.Lists.{all, empty}
-use Rattle.model.specs.Tlv.{Tlv, tlv, bytes, maxCommand, keyHandle, fits, timesAllowed, upTo}
+use Rattle.model.specs.Lists.{all}
+use Rattle.model.specs.Tlv.{tlv, bytes, maxCommand, keyHandle, fits, timesAllowed, upTo}
 use Rattle.model.specs.Writer.{Values, pieces, tlvsFor, valuesOk}
-use Rattle.model.proofs.Basics.{split, clash, and-left, and-right, both, impossible}
+use Rattle.model.proofs.Basics.{split, clash, and-left, and-right, both}
 use Rattle.model.proofs.Tlvs.{length-bytes}
+use Rattle.model.proofs.WriterForms.{together, pieces-are}
 use Rattle.model.proofs.LayoutLaws.{fits-most, fits-least, size-fits}
 use Rattle.command_writer.specs.Lengths.{takes, tooLong}
 use Rattle.command_writer.specs.Parts.{handleTlvs}
@@ -69,31 +70,13 @@ handles (n ∷ ns) s e l =
 
 -- ---- values that obey the rule come from such lengths alone
 
-record Cut (ns s : List ℕ) (vs : List (List ℕ)) : Type 0 where
-  many : length vs ≡ length ns
-  all-whole : whole ns ≡ true
-  adds-up : length s ≡ 32 * length ns
-
-cut : (ns s : List ℕ) (vs : List (List ℕ)) → pieces ns s ≡ some vs → all (fits keyHandle) vs ≡ true → Cut ns s vs
-unfolding pieces
-cut [] [] vs p f = let q : _≡_ {A = List (List ℕ)} [] vs = cc in rw (← q) (record { many = refl; all-whole = refl; adds-up = refl })
-cut [] (x ∷ s) vs p f = impossible cc
-cut (n ∷ ns) s vs p f =
-    split (leb n (length s))
-    (λ h.
-    let m = map-eq-some-iff _ _ .0 (rw h at p) in
-    let g : all (fits keyHandle) (take n s ∷ m .0) ≡ true = ap (all (fits keyHandle)) (m .2) ∙ f in
-    let t : length (take n s) ≡ n = length-take-le n s (leb-true n (length s) h) in
-    let a = and-left (fits keyHandle (take n s)) _ g in
-    let e : n ≡ 32 = omega (arith, t, fits-least keyHandle _ a, fits-most keyHandle _ a) in
-    let r = cut ns (drop n s) (m .0) (m .1) (and-right (fits keyHandle (take n s)) _ g) in
-    rw (← m .2)
-    (record {
-      many = omega (arith, r .many);
-      all-whole = both (eq-eqb n 32 e) (r .all-whole);
-      adds-up = omega (arith, r .adds-up, length-drop n s, leb-true n (length s) h);
-    }))
-    (λ h. let g : none ≡ some vs = rw h at p in impossible cc)
+each-whole : (vs : List (List ℕ)) → all (fits keyHandle) vs ≡ true → (whole (map length vs) ≡ true) × (length (together vs) ≡ 32 * length vs)
+each-whole [] e = (refl, refl)
+each-whole (v ∷ vs) e =
+    let f : fits keyHandle v ≡ true = and-left (fits keyHandle v) _ e in
+    let n : length v ≡ 32 = omega (arith, fits-least keyHandle v f, fits-most keyHandle v f) in
+    let (w, l) = each-whole vs (and-right (fits keyHandle v) _ e) in
+    (both (eq-eqb (length v) 32 n) w, omega (arith, n, l, length-append v (together vs)))
 
 module _ (ns s : List ℕ) where
   obeyed : valuesOk (upTo 8 keyHandle) (pieces ns s) ≡ true → (length ns ≤ 8) × (whole ns ≡ true) × (length s ≡ 32 * length ns)
@@ -104,8 +87,10 @@ module _ (ns s : List ℕ) where
       go none p e = clash e refl
       go (some vs) p e =
           let n : Bool = timesAllowed (upTo 8 keyHandle) (length vs) in
-          let c : Cut ns s vs = cut ns s vs p (and-right n _ e) in
-          (omega (arith, c .many, leb-true (length vs) 8 (and-right (leb 0 (length vs)) _ (and-left n _ e))), c .all-whole, c .adds-up)
+          let (m, t) = pieces-are ns s vs p in
+          let (w, l) = each-whole vs (and-right n _ e) in
+          let z : length ns ≡ length vs = rw (← m) (length-map vs length) in
+          (omega (arith, z, leb-true (length vs) 8 (and-right (leb 0 (length vs)) _ (and-left n _ e))), rw m at w, omega (arith, z, l, ap length t))
 
   -- one of the three tests fails
   module _ (h : (length ns ≤ 8) × (whole ns ≡ true) × (length s ≡ 32 * length ns) → ⊥) where

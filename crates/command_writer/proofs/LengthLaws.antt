@@ -1,20 +1,23 @@
 -- How many bytes the fields of a command take, and what the writer says by their sum.
 -- Assumes nothing.
-use mathlib.Core.Path.{_≡_, refl, sym, _∙_}
+use mathlib.Core.Path.{_≡_, refl, _∙_}
 use mathlib.Core.Bool.{true, false}
 use mathlib.Core.List.{List, [], _∷_}
+use mathlib.Core.Logic.{inl, inr}
 use Prim.Native.Nat.{ℕ, _+_, _≤_, _<_}
 use native.Mathlib.Omega.{arith}
 use lib.ListN.{length, length-append}
 use lib.Dec.{leb, ltb, eqb}
-use borrow.Author.Tests.{lt-ltb, le-ltb, ltb-true, ltb-false, leb-true, le-leb, lt-leb, eqb-true, ne-eqb}
+use borrow.Author.Tests.{lt-ltb, le-ltb, ltb-true, ltb-false, leb-true, le-leb, eqb-true, ne-eqb}
 use Rattle.model.specs.Lists.{eqBytes}
 use Rattle.model.specs.Tlv.{le, tlv, bytes, maxCommand, Field, index, attestationType, keyHandle, ruleOf, tagOf, fits, Kind, commandTag, Listed, mandatory, optional, fieldsOf}
-use Rattle.model.specs.Commands.{judge, refused, gave}
+use Rattle.model.specs.Commands.{refused, gave}
 use Rattle.model.specs.Writer.{Values, one, marked, number, tlvsFor, childrenFor, commandOf, valuesOk, eachOk, writable, writeValues}
-use Rattle.model.proofs.Basics.{split, clash, and-left, and-right, up-to, all-got}
-use Rattle.model.proofs.Tlvs.{bytes-append, length-bytes}
+use Rattle.model.proofs.Basics.{split, clash, and-left, and-right, both, up-to, all-got}
+use Rattle.model.proofs.Tlvs.{bytes-append, length-one}
 use Rattle.model.proofs.LayoutLaws.{fits-most}
+use Rattle.model.proofs.WriterLaws as written
+use Rattle.model.proofs.WriterLaws.{Breaks, refuses-6, refuses-1}
 use Rattle.params.specs.Slots.{commandFields, slotField}
 use Rattle.command_writer.specs.Lengths.{takes, takesAll, tooLong, refusalOf}
 use Rattle.command_writer.specs.Parts.{givenTlvs, givenSize}
@@ -34,14 +37,10 @@ module _ (f : Listed) (vs : Values) where
   pub obeys : takes f vs ≤ maxCommand → valuesOk f vs ≡ true
   obeys h = split (valuesOk f vs) (λ e. e) (λ e. let n = takes-not e in absurd (omega (arith, n)))
 
-one-length : (t : ℕ) (v : List ℕ) → length (bytes (tlv t v ∷ [])) ≡ 4 + length v
-unfolding bytes
-one-length t v = length-bytes (tlv t v) [] ∙ omega arith
-
 module _ (f : Field) (v : List ℕ) where
   -- one that must be given
   pub one-fits : fits f v ≡ true → takes (mandatory f) (one v) ≡ 4 + length v
-  one-fits e = takes-ok (mandatory f) (one v) (rw e) ∙ one-length _ v
+  one-fits e = takes-ok (mandatory f) (one v) (rw e) ∙ length-one _ v
 
   pub one-not : fits f v ≡ false → takes (mandatory f) (one v) ≡ tooLong
   one-not e = takes-not (mandatory f) (one v) (rw e)
@@ -67,10 +66,10 @@ module _ (f : Field) (v : List ℕ) where
     pub marked-size : takes (optional f) (marked mark v) ≤ maxCommand → takes (optional f) (marked mark v) ≡ givenSize mark (length v)
     unfolding bytes
     marked-size h =
-        takes-ok _ _ (obeys _ _ h) ∙ rw marked-tlvs (split (eqb mark 1) (λ e. rw e (one-length (tagOf f) v)) (λ e. rw e))
+        takes-ok _ _ (obeys _ _ h) ∙ rw marked-tlvs (split (eqb mark 1) (λ e. rw e (length-one (tagOf f) v)) (λ e. rw e))
 
   pub one-size : takes (mandatory f) (one v) ≤ maxCommand → takes (mandatory f) (one v) ≡ 4 + length v
-  one-size h = takes-ok _ _ (obeys _ _ h) ∙ one-length (tagOf f) v
+  one-size h = takes-ok _ _ (obeys _ _ h) ∙ length-one (tagOf f) v
 
 -- the index, which is 0
 pub index-takes : takes (mandatory index) (one (0 ∷ [])) ≡ 5
@@ -131,36 +130,30 @@ sums-over (f ∷ fs) (vs ∷ vss) e =
 module _ (k : Kind) (vss : List Values) {n : ℕ} (e : n ≡ 4 + takesAll (fieldsOf k) vss) where
   command-length : eachOk (fieldsOf k) vss ≡ true → length (commandOf k vss) ≡ n
   unfolding commandOf
-  command-length h = one-length (commandTag k) _ ∙ omega (arith, sums (fieldsOf k) vss h)
+  command-length h = length-one (commandTag k) _ ∙ omega (arith, sums (fieldsOf k) vss h)
 
-  refuses-6 : (out : ℕ) → maxCommand < n → writeValues k vss out ≡ refused 6
-  unfolding writeValues writable judge
-  refuses-6 out m =
-      split (eachOk (fieldsOf k) vss)
-      (λ h. rw (h, command-length h, lt-leb n maxCommand m))
-      (λ h. rw h)
+  -- over 8,192 a field breaks its rule or the command is too long, and else neither
+  breaks : maxCommand < n → Breaks k vss
+  breaks m = split (eachOk (fieldsOf k) vss) (λ h. inr (rw (command-length h) m)) (λ h. inl h)
 
   module _ (m : n ≤ maxCommand) where
     each-ok : eachOk (fieldsOf k) vss ≡ true
     each-ok = split (eachOk (fieldsOf k) vss) (λ h. h) (λ h. absurd (omega (arith, sums-over (fieldsOf k) vss h)))
 
-    refuses-1 : (out : ℕ) → out < n → writeValues k vss out ≡ refused 1
-    unfolding writeValues writable judge
-    refuses-1 out h = rw (each-ok, command-length each-ok, le-leb n maxCommand m, lt-ltb out n h)
-
-    writes-it : (out : ℕ) → n ≤ out → writeValues k vss out ≡ gave (commandOf k vss)
-    unfolding writeValues writable judge
-    writes-it out h = rw (each-ok, command-length each-ok, le-leb n maxCommand m, le-ltb out n h)
+    passes : writable k vss ≡ true
+    unfolding writable
+    passes = both each-ok (le-leb (length (commandOf k vss)) maxCommand (omega (arith, command-length each-ok)))
 
   module _ (out : ℕ) {r : ℕ} (i : r ≡ refusalOf n out) where
     pub refuses : (r ≡ 0 → ⊥) → writeValues k vss out ≡ refused r
     unfolding refusalOf
     refuses h =
         split (ltb maxCommand n)
-        (λ m. let j : r ≡ 6 = rw m at i in rw j (refuses-6 out (ltb-true _ _ m)))
+        (λ m. let j : r ≡ 6 = rw m at i in rw j (refuses-6 k vss out (breaks (ltb-true _ _ m))))
         (λ m.
         split (ltb out n)
-        (λ o. let j : r ≡ 1 = rw (m, o) at i in rw j (refuses-1 (ltb-false _ _ m) out (ltb-true _ _ o)))
+        (λ o. let j : r ≡ 1 = rw (m, o) at i in let p = ltb-false _ _ m in
+        rw j (refuses-1 k vss out (passes p) (rw (command-length (each-ok p)) (ltb-true _ _ o))))
         (λ o. absurd (h (rw (m, o) at i))))
 
     pub accepts : r ≡ 0 → (n ≤ maxCommand) × (n ≤ out)
@@ -174,4 +167,6 @@ module _ (k : Kind) (vss : List Values) {n : ℕ} (e : n ≡ 4 + takesAll (field
         (λ o. (ltb-false _ _ m, ltb-false _ _ o)))
 
     pub writes : r ≡ 0 → writeValues k vss out ≡ gave (commandOf k vss)
-    writes h = let a = accepts h in writes-it (a .0) out (a .1)
+    writes h =
+        let a = accepts h in
+        written.writes k vss out (passes (a .0)) (rw (command-length (each-ok (a .0))) (a .1))

@@ -6,19 +6,15 @@ use Prim.Native.Nat.{ℕ, _+_}
 use native.Mathlib.Omega.{arith}
 use lib.ListN.{length}
 use Rattle.model.specs.Tlv.{le, Tlv, tlv, header, bytes, tagOf, ok, assertionTag}
-use Rattle.model.proofs.Tlvs.{bytes-append, bytes-one, length-bytes}
+use Rattle.model.proofs.Tlvs.{bytes-append, bytes-one, length-bytes, length-one}
 use Rattle.model.proofs.CompletionWrites.{wrapped}
 use Rattle.tlv.specs.Writing.{Wrote}
 use Rattle.tlv.proofs.WriteLaws.{then, same, from-front}
 use Rattle.completion.specs.Completions.{opening}
 
-length-tlv : (t : ℕ) (v : List ℕ) → length (bytes (tlv t v ∷ [])) ≡ length v + 4
-unfolding bytes
-length-tlv t v = length-bytes (tlv t v) [] ∙ omega arith
-
 length-inside : (v : List ℕ) → length (bytes (tlv (tagOf ok) (le 2 0) ∷ tlv assertionTag v ∷ [])) ≡ length v + 10
 unfolding le
-length-inside v = length-bytes (tlv (tagOf ok) (le 2 0)) (tlv assertionTag v ∷ []) ∙ omega (arith, length-tlv assertionTag v)
+length-inside v = length-bytes (tlv (tagOf ok) (le 2 0)) (tlv assertionTag v ∷ []) ∙ omega (arith, length-one assertionTag v)
 
 module _ {d d₁ d₂ d₃ : List ℕ} {a₁ a₂ a₃ : ℕ} (response assertion n : ℕ) where
   -- the start of a response, and two headers
@@ -35,11 +31,11 @@ opening-is t a v =
     let n : ℕ = length v in
     let held : List ℕ = bytes (tlv a v ∷ []) in
     let inside : List Tlv = tlv (tagOf ok) (le 2 0) ∷ tlv assertionTag held ∷ [] in
-    let k : length (bytes inside) ≡ n + 14 = omega (arith, length-inside held, length-tlv a v) in
+    let k : length (bytes inside) ≡ n + 14 = omega (arith, length-inside held, length-one a v) in
     rw (
       bytes-one t (n + 14) (bytes inside) k,
       bytes-append (tlv (tagOf ok) (le 2 0) ∷ []) (tlv assertionTag held ∷ []),
-      bytes-one assertionTag (n + 4) held (length-tlv a v),
+      bytes-one assertionTag (n + 4) held (omega (arith, length-one a v)),
       bytes-one a n v refl,
     )
     (simp append-assoc)

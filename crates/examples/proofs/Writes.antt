@@ -1,17 +1,22 @@
 -- Request A2 of document 02: each command as its writer writes it, byte for byte; each rule of a field at its limit and one past it; the refusals in
 -- their order; and the form of a command.
 -- Assumes nothing.
-use mathlib.Core.Path.{_≡_, refl}
+use mathlib.Core.Path.{_≡_, refl, sym, subst}
 use mathlib.Core.Bool.{true, false}
 use mathlib.Core.List.{List, [], _∷_, _++_, map}
 use mathlib.Core.Option.{some}
 use Prim.Native.Nat.{ℕ}
+use native.Mathlib.Omega.{arith}
 use lib.ListN.{replicate}
-use Rattle.model.specs.Tlv.{getInfo, sign, openSettings, kindOf, broken}
+use Rattle.model.specs.Tlv.{Bytes, le, getInfo, register, sign, openSettings, kindOf, broken}
 use Rattle.model.specs.Commands.{Result, refused, gave}
-use Rattle.model.specs.Writer.{Wanted, toGetInfo, toRegister, toSign, toDeregister, toOpenSettings, writeCommand, formOf}
+use Rattle.model.specs.Writer.{number, Wanted, toGetInfo, toRegister, toSign, toDeregister, toOpenSettings, wantedKind, wantedValues, writeCommand, valuesIn, formOf}
+use Rattle.model.proofs.Basics.{impossible}
+use Rattle.model.proofs.Numbers.{bytes-le}
 use Rattle.model.proofs.Computing.{computing}
 use Rattle.model.proofs.Witness.{zeros, byte}
+use Rattle.model.proofs.WriterLaws.{written}
+use Rattle.model.proofs.WriterForms.{number-means, InRange}
 use Rattle.examples.proofs.Limits.{Line, _gives_, Holds, holds}
 
 -- the command, or the number of the refusal alone
@@ -142,8 +147,9 @@ pub form-of : Holds formLines
 unfolding computing
 form-of = holds formLines refl
 
--- ---- what the laws ask is needed. A Sign with an empty AppID is its own form and breaks a rule, so no writer writes it (in-range). And the children of an
--- Open settings under the outer tag of GetInfo have as their form an Open settings, which is another command (has-form)
+-- ---- what the laws ask is needed. A Sign with an empty AppID is its own form and breaks a rule, so no writer writes it (in-range). The children of an
+-- Open settings under the outer tag of GetInfo have as their form an Open settings, which is another command (has-form). And a Register whose attestation
+-- type is not of bytes is its own form and breaks no rule, and no writer writes it, which are lent the type as a number (in-range)
 
 abbrev emptyApp : List ℕ
 emptyApp =
@@ -160,3 +166,31 @@ underInfo = 0x01 ∷ 0x34 ∷ 0x05 ∷ 0x00 ∷ 0x0D ∷ 0x28 ∷ 0x01 ∷ 0x00 
 pub kind-needed : (broken openSettings underInfo ≡ false) × (kindOf underInfo ≡ some getInfo) × (kindOf (formOf openSettings underInfo) ≡ some openSettings)
 unfolding computing
 kind-needed = (refl, refl, refl)
+
+abbrev wideType : List ℕ
+wideType =
+    0x02 ∷ 0x34 ∷ 0x1A ∷ 0x00 ∷ 0x0D ∷ 0x28 ∷ 0x01 ∷ 0x00 ∷ 0x00 ∷ 0x0A ∷ 0x2E ∷ 0x01 ∷ 0x00 ∷ 0xAA ∷ 0x06 ∷ 0x28 ∷ 0x01 ∷ 0x00 ∷ 0x41
+    ∷ 0x07 ∷ 0x28 ∷ 0x02 ∷ 0x00 ∷ 300 ∷ 0x00 ∷ 0x05 ∷ 0x28 ∷ 0x01 ∷ 0x00 ∷ 0xAA ∷ []
+
+pub bytes-needed : (broken register wideType ≡ false) × (formOf register wideType ≡ wideType)
+unfolding computing
+bytes-needed = (refl, refl)
+
+-- the fifth of its values would be two bytes of a number
+type-of : (w : Wanted) → wantedKind w ≡ register → wantedValues w ≡ valuesIn register wideType → ⊥
+unfolding computing
+type-of toGetInfo k e = impossible cc
+type-of (toRegister ma a c u t i mv v) k e =
+    let f : number t ≡ some ((300 ∷ 0 ∷ []) ∷ []) = cc in
+    let (h, p) = number-means t _ f in
+    let q : 300 ∷ 0 ∷ [] ≡ le 2 t = cc in
+    let b : Bytes (300 ∷ 0 ∷ []) = subst Bytes (sym q) (bytes-le 2 t) in
+    absurd (omega (arith, b .0))
+type-of (toSign ma a c mt t i mv v hs ns) k e = impossible cc
+type-of (toDeregister ma a i j) k e = impossible cc
+type-of toOpenSettings k e = impossible cc
+
+pub wide-unwritten : InRange register wideType → ⊥
+wide-unwritten r =
+    let w = written (wantedKind (r .wanted)) (wantedValues (r .wanted)) 30 wideType (r .writes-it 30 (omega arith)) in
+    type-of (r .wanted) (r .kind) (sym (rw (r .kind) at (w .yields)))

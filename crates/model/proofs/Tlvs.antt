@@ -1,6 +1,6 @@
 -- Runs of TLVs: what is written is read, and what is read was written.
 -- Assumes nothing.
-use mathlib.Core.Path.{_≡_, refl}
+use mathlib.Core.Path.{_≡_, refl, _∙_}
 use mathlib.Core.List.{List, [], _∷_, _++_, append-assoc, append-nil}
 use mathlib.Core.Option.{some, map-eq-some-iff}
 use Prim.Native.Nat.{ℕ, zero, suc, _+_, _≤_, _<_, zero-le}
@@ -34,6 +34,10 @@ bytes-one tag n v e = rw (e, append-nil)
 pub length-bytes : (t : Tlv) (ts : List Tlv) → length (bytes (t ∷ ts)) ≡ 4 + length (t .value) + length (bytes ts)
 unfolding bytes le
 length-bytes t ts = rw (length-append (t .value) (bytes ts)) (omega arith)
+
+pub length-one : (t : ℕ) (v : List ℕ) → length (bytes (tlv t v ∷ [])) ≡ 4 + length v
+unfolding bytes
+length-one t v = length-bytes (tlv t v) [] ∙ omega arith
 
 -- ---- what is written is read
 

@@ -63,7 +63,7 @@ form-total fs (c ∷ ts) d = omega (arith, one-more fs c ts d, form-total fs ts 
 
 -- ---- the form of an accepted command
 
-pub record Form (k : Kind) (s : List ℕ) : Type 0 where
+pub record HasForm (k : Kind) (s : List ℕ) : Type 0 where
   -- the writer takes its values, and writes it into any output that is long enough
   pub passes : writable k (valuesIn k s) ≡ true
   pub again : (n : ℕ) → length (formOf k s) ≤ n → writeValues k (valuesIn k s) n ≡ gave (formOf k s)
@@ -115,7 +115,7 @@ form-written : (k : Kind) (s : List ℕ) → broken k s ≡ false → Written k 
 unfolding formOf
 form-written k s b = written-of k (valuesIn k s) (form-passes k s b)
 
-pub has-form : (k : Kind) (s : List ℕ) → kindOf s ≡ some k → broken k s ≡ false → Form k s
+pub has-form : (k : Kind) (s : List ℕ) → kindOf s ≡ some k → broken k s ≡ false → HasForm k s
 unfolding formOf valuesIn
 has-form k s n b =
     let w : Written k (valuesIn k s) (formOf k s) = form-written k s b in

@@ -11,13 +11,14 @@ use lib.ListN.{length}
 use lib.Dec.{leb, ltb, eqb}
 use borrow.Author.Tests.{eqb-true, eqb-false, eq-eqb, ne-eqb, leb-true, leb-false, le-leb, lt-leb, ltb-true, lt-ltb, le-ltb, not-true}
 use Rattle.model.specs.Lists.{all, given, eqBytes}
-use Rattle.model.specs.Tlv.{le, Tlv, tlv, bytes, Kind, getInfo, register, sign, deregister, openSettings, Field, tagOf, fits, Listed, fieldsOf, listed, valuesOf, timesAllowed, timesOk, childrenOk, children, kindOf, broken, fieldsIn, maxCommand}
+use Rattle.model.specs.Tlv.{le, Tlv, tlv, bytes, Kind, getInfo, sign, openSettings, Field, tagOf, fits, Listed, fieldsOf, listed, valuesOf, timesAllowed, timesOk, childrenOk, children, kindOf, broken, fieldsIn, maxCommand}
 use Rattle.model.specs.Commands.{Call, Given, kind, judge, refused, gave, refusals, Effect, outcome}
 use Rattle.model.specs.Complete.{outputOf}
 use Rattle.model.specs.Writer.{Values, one, marked, pieces, Wanted, toGetInfo, toSign, toOpenSettings, wantedValues, childrenFor, commandOf, valuesOk, eachOk, writable, writeValues, writeCommand, valuesIn}
 use Rattle.model.proofs.Basics.{split, clash, impossible, up-to, and-left, and-right, both, all-append, Each, all-each, each-all, each-same, judged-each}
 use Rattle.model.proofs.Tlvs.{Sized}
 use Rattle.model.proofs.Kept.{statusOf, Accepted, accepted}
+use Rattle.model.proofs.CommandWrites.{each-kind}
 use Rattle.model.proofs.Refusals.{Over, is-over}
 use Rattle.model.proofs.Edges.{invalid-only}
 use Rattle.model.proofs.Witness.{total, length-command, kind-command, children-command, not-broken}
@@ -87,18 +88,10 @@ tagsDiffer [] = true
 tagsDiffer (f ∷ fs) = not (given (listed fs (tagOf (f .field)))) && tagsDiffer fs
 
 pub tags-differ : (k : Kind) → tagsDiffer (fieldsOf k) ≡ true
-tags-differ getInfo = refl
-tags-differ register = refl
-tags-differ sign = refl
-tags-differ deregister = refl
-tags-differ openSettings = refl
+tags-differ = each-kind (λ k. tagsDiffer (fieldsOf k)) refl
 
 tags-small : (k : Kind) → all (λ f. ltb (tagOf (f .field)) 65536) (fieldsOf k) ≡ true
-tags-small getInfo = refl
-tags-small register = refl
-tags-small sign = refl
-tags-small deregister = refl
-tags-small openSettings = refl
+tags-small = each-kind (λ k. all (λ f. ltb (tagOf (f .field)) 65536) (fieldsOf k)) refl
 
 -- the first one's tag is not listed after it
 pub first-differs : (f : Listed) (fs : List Listed) → tagsDiffer (f ∷ fs) ≡ true

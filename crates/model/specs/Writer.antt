@@ -8,7 +8,7 @@ use lib.ListN.{length, take, drop}
 use lib.Dec.{leb, ltb, eqb}
 use Rattle.model.specs.Lists.{all, empty}
 use Rattle.model.specs.Tlv.{le, Tlv, tlv, bytes, maxCommand, Kind, getInfo, register, sign, deregister, openSettings, commandTag, fits, tagOf, Listed, timesAllowed, fieldsOf, fieldsIn}
-use Rattle.model.specs.Commands.{Check, check, judge, Result, refused, gave}
+use Rattle.model.specs.Commands.{check, judge, Result, refused, gave}
 
 -- ---- what is lent for a field says its values, in their order; none where it says nothing that could be written
 

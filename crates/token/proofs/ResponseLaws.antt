@@ -5,15 +5,10 @@ use mathlib.Core.Bool.{true, false}
 use mathlib.Core.List.{List}
 use Prim.Native.Nat.{ℕ, _+_, _-_, _≤_}
 use native.Mathlib.Omega.{arith}
-use lib.ListN.{length}
-use Rattle.model.specs.Commands.{Result, refused, gave}
 use Rattle.model.specs.Reader.{Stretch, isResponse, readResponse}
-use Rattle.model.proofs.Basics.{split, impossible}
+use Rattle.model.proofs.Basics.{split}
 use Rattle.model.proofs.Refusals.{not-read}
 use Rattle.tlv.specs.declared.heads.Span.{Span}
-use Rattle.fields.specs.Refusals.{Ended, ended, ends}
-use Rattle.fields.specs.declared.refusals.Written.{Written}
-use Rattle.fields.specs.declared.refusals.Written.the-variants.{Refused, Wrote}
 use Rattle.response_reader.specs.Met.{met, spanOf, signedMet}
 use Rattle.response_reader.specs.Readings.{Left, left, readingOf}
 use Rattle.response_reader.specs.declared.readings.Reading.{Reading}

@@ -1,7 +1,6 @@
 -- After i turns the first i lengths are a key handle's, so the rest decides.
 use mathlib.Core.Path.{_≡_, refl, sym, _∙_}
 use Prim.Native.Nat.{_-_, _≤_}
-use native.Mathlib.Omega.{arith}
 use lib.ListN.{length, drop}
 use borrow.Author.Needs.{needs}
 use Rattle.command_writer.proofs.HandleLaws.{whole, whole-not, whole-more, whole-end}

@@ -1,5 +1,4 @@
 -- Too long is 6, then an output that is too short 1.
-use mathlib.Core.Path.{sym}
 use borrow.Author.Tests.{lt-ltb, le-ltb}
 use Rattle.model.specs.Tlv.{maxCommand}
 use Rattle.command_writer.specs.Lengths.{refusalOf}

@@ -1,7 +1,6 @@
 -- A header alone, which says that nothing follows.
 use mathlib.Core.Path.{refl}
 use mathlib.Core.List.{[]}
-use native.Mathlib.Omega.{arith}
 use borrow.Author.Needs.{needs}
 use Rattle.model.specs.Tlv.{le, bytes, getInfo}
 use Rattle.model.specs.Writer.{childrenFor, commandOf}

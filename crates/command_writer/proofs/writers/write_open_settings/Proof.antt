@@ -6,7 +6,6 @@ use Rattle.model.specs.Tlv.{openSettings}
 use Rattle.model.specs.Writer.{one, childrenFor, commandOf}
 use Rattle.tlv.proofs.WriteLaws.{then-value}
 use Rattle.fields.proofs.RefusalLaws.{ends-refused, ends-wrote}
-use Rattle.command_writer.specs.Lengths.{takesAll}
 use Rattle.command_writer.proofs.LengthLaws.{refuses, accepts, writes}
 use Rattle.command_writer.proofs.WriterLaws.{settings-sum}
 use Rattle.command_writer.proofs.writers.write_open_settings.Statement.{statement}
