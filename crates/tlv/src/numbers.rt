@@ -37,11 +37,13 @@ pub fn get64(s: &[u8], at: usize) -> usize
     get32(s, at) + 4294967296 * get32(s, at + 4)
 }
 
-// The two lowest bytes of a length or a tag, the lowest first: the one place that splits a number into bytes.
+// The two lowest bytes of a length or a tag, the lowest first: the one place that splits a number into bytes. By a shift and masks, since division is
+// dear on the terminal's processor.
 fn split(n: usize) -> [u8; 2]
     ensures { λ r. ⌜ r ≡ le 2 n ⌝ }
 {
-    [(n % 256) as u8, (n / 256 % 256) as u8]
+    let high = n >> 8;
+    [(n & 0xff) as u8, (high & 0xff) as u8]
 }
 
 // Writes a byte.
@@ -70,7 +72,7 @@ pub fn put32(out: &mut [u8], at: usize, n: usize) -> usize
     ensures { λ r. ⌜ Wrote (now (out .entry)) at (le 4 n) 4 (now (out .exit)) r ⌝ }
 {
     let mid = put16(out, at, n);
-    put16(out, mid, n / 65536)
+    put16(out, mid, n >> 16)
 }
 
 // Writes a number in eight bytes, its low half first.
