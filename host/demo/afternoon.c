@@ -9,18 +9,6 @@ struct caller caller_of(const struct firm *firm)
     return (struct caller){text(firm->app_id), WHOLE(firm->access_token.bytes)};
 }
 
-/* The hash of the access token followed by the AppID. */
-static struct hash mixed_of(struct caller caller)
-{
-    struct blob both;
-    both.size = caller.access_token.size + caller.app_id.size;
-    if (both.size > sizeof both.bytes)
-        fail_because("AppID", "too long");
-    copy(both.bytes, caller.access_token);
-    copy(both.bytes + caller.access_token.size, caller.app_id);
-    return sha256(FILLED(both));
-}
-
 static void found_firms(struct firm firms[FIRMS])
 {
     static const char *const names[FIRMS][2] = {
@@ -33,7 +21,7 @@ static void found_firms(struct firm firms[FIRMS])
         firms[i].app_id = names[i][1];
         /* the same in every afternoon, so that a firm finds its own records again */
         firms[i].access_token = sha256(text(firms[i].name));
-        firms[i].mixed = mixed_of(caller_of(&firms[i]));
+        firms[i].mixed = sha256_of_both(WHOLE(firms[i].access_token.bytes), text(firms[i].app_id));
     }
 }
 
@@ -116,10 +104,8 @@ static void run(struct afternoon *a, const struct request *request, size_t statu
     }
 }
 
-static void start_request(struct request *request, const struct firm *firm)
+static void start_request(struct request *request)
 {
-    request->mixed = firm->mixed;
-    request->content_hash = sha256(nothing()); /* Sign looks at its length even where there is no content */
     request->verdict = UAF_VERIFIED;
     request->display = UAF_SHOWN_CONFIRMED;
     request->attestation = 0;
@@ -143,7 +129,7 @@ static struct challenge new_challenge(struct afternoon *a, const struct firm *fi
 void get_info(struct afternoon *a, struct response *response)
 {
     struct request request;
-    start_request(&request, &a->firms[NORTHGATE]); /* anybody's: GetInfo looks at the profile only */
+    start_request(&request);
     require_written(write_get_info(&request.command));
     run(a, &request, 0, response);
 }
@@ -152,7 +138,7 @@ static void start_register(
     struct request *request, const struct firm *firm, const struct challenge *challenge, const char *username, uint32_t attestation)
 {
     struct hash challenge_hash = sha256(text(challenge->letters));
-    start_request(request, firm);
+    start_request(request);
     request->attestation = attestation;
     require_written(
         write_register(&request->command, caller_of(firm), WHOLE(challenge_hash.bytes), text(username), attestation));
@@ -173,6 +159,10 @@ void enrol(
     snprintf(name, sizeof name, "register-%s-%u", a->firms[firm].name, ++a->registrations);
     archive_add(&a->archive, name, &(struct asked){caller_of(&a->firms[firm]), challenge.letters, ""}, response);
     server_enrol(&a->server, username, text(challenge.letters), response);
+    struct record record;
+    if (!record_find(&a->terminal.table, field_of(response, UAF_TAG_KEYID), &record))
+        fail_because(username, "registered without a record");
+    server_check_holder(caller_of(&a->firms[firm]), record.mixed);
 }
 
 /* The name in a Register, and the run of children that it stands in. */
@@ -206,9 +196,8 @@ const struct account *sign(struct afternoon *a, struct signing what, size_t stat
     const char *shown = what.content != NULL ? what.content : "";
     struct bytes content = text(shown);
     struct request request;
-    start_request(&request, &a->firms[what.firm]);
+    start_request(&request);
     request.display = what.display;
-    request.content_hash = sha256(content);
     require_written(write_sign(
         &request.command, caller, WHOLE(challenge_hash.bytes), what.content != NULL ? &content : NULL, what.key_handles));
     run(a, &request, status, response);
@@ -224,7 +213,7 @@ const struct account *sign(struct afternoon *a, struct signing what, size_t stat
 void leave(struct afternoon *a, size_t firm, struct bytes key_id, size_t status, struct response *response)
 {
     struct request request;
-    start_request(&request, &a->firms[firm]);
+    start_request(&request);
     require_written(write_deregister(&request.command, caller_of(&a->firms[firm]), key_id));
     run(a, &request, status, response);
 }

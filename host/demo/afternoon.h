@@ -7,7 +7,8 @@
 #include "server.h"
 #include "terminal.h"
 
-/* A betting firm. Its access token and AppID go into every command, and their hash is its mixed token. */
+/* A betting firm. Its access token, a secret of 32 bytes, and its AppID go into every command. Their hash is its mixed token, which
+ * the token works out for itself; here it is libcrypto's, to know the firm's records by. */
 struct firm {
     const char *name;
     const char *app_id;

@@ -2,6 +2,11 @@
 
 #include "fail.h"
 
+static uint32_t given(struct bytes app_id)
+{
+    return app_id.size > 0 ? UAF_GIVEN : UAF_NOT_GIVEN;
+}
+
 uint32_t write_get_info(struct command *command)
 {
     return uaf_write_get_info(command->bytes, sizeof command->bytes, &command->size);
@@ -11,7 +16,7 @@ uint32_t write_register(
     struct command *command, struct caller caller, struct bytes challenge_hash, struct bytes username, uint32_t attestation)
 {
     return uaf_write_register(
-        UAF_GIVEN, caller.app_id.at, caller.app_id.size,
+        given(caller.app_id), caller.app_id.at, caller.app_id.size,
         challenge_hash.at, challenge_hash.size,
         username.at, username.size,
         attestation,
@@ -30,7 +35,7 @@ uint32_t write_sign(
     while (count < UAF_MOST_HANDLES + 1 && count < key_handles.size / UAF_KEY_ID_SIZE)
         sizes[count++] = UAF_KEY_ID_SIZE;
     return uaf_write_sign(
-        UAF_GIVEN, caller.app_id.at, caller.app_id.size,
+        given(caller.app_id), caller.app_id.at, caller.app_id.size,
         challenge_hash.at, challenge_hash.size,
         content != NULL ? UAF_GIVEN : UAF_NOT_GIVEN, shown.at, shown.size,
         caller.access_token.at, caller.access_token.size,
@@ -43,7 +48,7 @@ uint32_t write_sign(
 uint32_t write_deregister(struct command *command, struct caller caller, struct bytes key_id)
 {
     return uaf_write_deregister(
-        UAF_GIVEN, caller.app_id.at, caller.app_id.size,
+        given(caller.app_id), caller.app_id.at, caller.app_id.size,
         key_id.at, key_id.size,
         caller.access_token.at, caller.access_token.size,
         command->bytes, sizeof command->bytes, &command->size);

@@ -10,7 +10,8 @@ struct command {
     size_t size;
 };
 
-/* Who asks. The hash of access token and AppID is the mixed token, the holder that records belong to. */
+/* Who asks. The hash of access token and AppID is the mixed token, the holder that records belong to: the token works it out.
+ * An AppID of no bytes: none is given. */
 struct caller {
     struct bytes app_id;
     struct bytes access_token;

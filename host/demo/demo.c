@@ -69,7 +69,8 @@ static void register_seller(struct afternoon *a, size_t firm, const char *userna
     show("  > %s: Register %s, %s attestation\n", a->firms[firm].name, username, full ? "full" : "surrogate");
     enrol(a, firm, username, attestation, UAF_STATUS_OK, &response);
     show_response(&response);
-    show("  = the signature verifies with %s\n", full ? "the certificate's key" : "the new key itself");
+    show("  = the signature verifies with %s;", full ? "the certificate's key" : "the new key itself");
+    show(" the record's mixed token is as libcrypto hashes it\n");
 }
 
 static void register_sellers(struct afternoon *a)
@@ -167,6 +168,7 @@ static void dividends(struct afternoon *a)
     show("  > Northgate: Sign with Ann's key handle, and a dividend as content\n");
     show("    display [ %s ]  Ann: yes\n", right);
     sign_as(a, (struct signing){NORTHGATE, WHOLE(ann.bytes), right, UAF_SHOWN_CONFIRMED}, "Ann");
+    show("  = the dividend's hash, which is signed, is as libcrypto hashes it\n");
 
     const struct table before = a->terminal.table;
     show("  > Northgate: Sign with Ann's key handle, and another dividend\n");
@@ -198,7 +200,7 @@ static void empty_content(struct afternoon *a)
     show("  = it counts as none: the hash that is signed is empty\n");
 }
 
-/* A list of dividends that leaves no room in the command, and is too long for the display; then one byte more. */
+/* A list of dividends that leaves no room in the command, and is too long for one display and not for another; then one byte more. */
 static void longest_command(struct afternoon *a)
 {
     static char letters[UAF_MOST_COMMAND];
@@ -220,6 +222,9 @@ static void longest_command(struct afternoon *a)
         a, (struct signing){HOLLIN, nothing(), letters, UAF_SHOWN_NOT_RENDERED}, UAF_STATUS_CANNOT_RENDER_TRANSACTION_CONTENT,
         &response);
     show_response(&response);
+    show("  > Hollin: the same to a display that can show it\n");
+    sign_as(a, (struct signing){HOLLIN, nothing(), letters, UAF_SHOWN_CONFIRMED}, "Cy");
+    show("  = the hash of its %zu bytes is as libcrypto hashes them\n", room);
 
     show("  > Hollin: Sign with content of %zu bytes\n", room + 1);
     letters[room] = '.';
@@ -300,13 +305,13 @@ static void deregister_seller(struct afternoon *a, size_t firm, const char *user
 static void go_home(struct afternoon *a)
 {
     struct response response;
-    show("\n12. Bo and %s go home: one record each is removed, and Northgate's next sign-in is no tie\n", ZOE);
+    show("\n13. Bo and %s go home: one record each is removed, and Northgate's next sign-in is no tie\n", ZOE);
     deregister_seller(a, NORTHGATE, "Bo");
     deregister_seller(a, NORTHGATE, ZOE);
     show("  > Northgate: Sign, no key handle\n");
     sign_as(a, (struct signing){NORTHGATE, nothing(), NULL, UAF_SHOWN_CONFIRMED}, "Ann");
 
-    show("\n13. Hollin goes home: an empty KeyID removes all that is Hollin's, and nothing else\n");
+    show("\n14. Hollin goes home: an empty KeyID removes all that is Hollin's, and nothing else\n");
     show("  > Hollin: Deregister with an empty KeyID\n");
     leave(a, HOLLIN, nothing(), UAF_STATUS_OK, &response);
     show_response(&response);
@@ -349,6 +354,7 @@ int main(int argc, char **argv)
     freed_place(&afternoon);
     last_count(&afternoon);
     refusals(&afternoon);
+    whose_command(&afternoon);
     go_home(&afternoon);
     afternoon_close(&afternoon);
     show_flush();

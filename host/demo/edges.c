@@ -19,51 +19,61 @@ static void set_count(struct table *table, struct bytes key_id, uint32_t count)
     fail_because("record", "none with this KeyID");
 }
 
-/* Runs the same Sign on a table, without a terminal around it. */
-static void sign_on(const struct afternoon *a, struct bytes key_handles, const struct table *table, struct answer *answer)
+/* Runs a command on a table, without a terminal around it. */
+static void run_on(const struct command *command, const struct table *table, struct answer *answer)
 {
     const uint8_t nonce[8] = {0};
+    const struct hash any = sha256(text("any"));
+    const struct lent lent = {UAF_VERIFIED, UAF_SHOWN_CONFIRMED, WHOLE(any.bytes), WHOLE(any.bytes), WHOLE(nonce)};
+    if (token_command(FILLED(*command), &lent, table, answer) != 0)
+        fail_because("command", "refused");
+}
+
+/* An answer that must be a response with this status. */
+static void show_status(const struct answer *answer, size_t status)
+{
+    struct response response;
+    memcpy(response.bytes, answer->bytes, answer->size);
+    response.size = answer->size;
+    if (answer->kind != UAF_RESPONSE || token_read(&response) != 0 || response.status != status)
+        fail_because("command", "another answer than it must get");
+    show_response(&response);
+}
+
+static void require_same(const struct table *left, const struct table *before)
+{
+    if (!same(FILLED(*left), FILLED(*before)))
+        fail_because("table", "changed");
+}
+
+static void sign_on(struct caller caller, struct bytes key_handles, const struct table *table, struct answer *answer)
+{
     const struct hash any = sha256(nothing());
     struct command command;
-    require_written(write_sign(&command, caller_of(&a->firms[NORTHGATE]), WHOLE(any.bytes), NULL, key_handles));
-    const struct lent lent = {
-        .verdict = UAF_VERIFIED,
-        .display = UAF_SHOWN_CONFIRMED,
-        .mixed = WHOLE(a->firms[NORTHGATE].mixed.bytes),
-        .key_id = nothing(),
-        .public_key = nothing(),
-        .nonce = WHOLE(nonce),
-        .content_hash = WHOLE(any.bytes),
-    };
-    if (token_command(FILLED(command), &lent, table, answer) != 0)
-        fail_because("Sign", "refused");
+    require_written(write_sign(&command, caller, WHOLE(any.bytes), NULL, key_handles));
+    run_on(&command, table, answer);
 }
 
 void last_count(const struct afternoon *a)
 {
     static struct answer last, beyond;
+    const struct caller northgate = caller_of(&a->firms[NORTHGATE]);
     const struct hash ann = key_id_of(a, NORTHGATE, "Ann");
     struct table copy = a->terminal.table;
     struct record record;
-    struct response response;
     show("\n10. The last count, on a copy of the table in which Ann's is 4294967294\n");
     set_count(&copy, WHOLE(ann.bytes), UINT32_MAX - 1);
 
     show("  > Northgate: Sign with Ann's key handle\n");
-    sign_on(a, WHOLE(ann.bytes), &copy, &last);
+    sign_on(northgate, WHOLE(ann.bytes), &copy, &last);
     if (last.kind != UAF_DRAFT || !record_find(&last.left, WHOLE(ann.bytes), &record) || record.count != UINT32_MAX)
         fail_because("Sign", "the last count is not given");
     show("  < a draft to sign, %zu bytes; Ann's SignCounter is %u\n", last.size, (unsigned)record.count);
 
     show("  > Northgate: the same again\n");
-    sign_on(a, WHOLE(ann.bytes), &last.left, &beyond);
-    memcpy(response.bytes, beyond.bytes, beyond.size);
-    response.size = beyond.size;
-    if (beyond.kind != UAF_RESPONSE || token_read(&response) != 0 || response.status != UAF_STATUS_ERR_UNKNOWN)
-        fail_because("Sign", "a count beyond the last");
-    if (!same(FILLED(beyond.left), FILLED(last.left)))
-        fail_because("table", "changed");
-    show_response(&response);
+    sign_on(northgate, WHOLE(ann.bytes), &last.left, &beyond);
+    show_status(&beyond, UAF_STATUS_ERR_UNKNOWN);
+    require_same(&beyond.left, &last.left);
     show("  = no count comes twice\n");
 }
 
@@ -87,8 +97,7 @@ static void refuse_command(
     const char *asked, struct bytes command, uint32_t verdict, struct bytes nonce, const struct table *table, uint32_t expected)
 {
     struct hash any = sha256(nothing());
-    struct lent lent = {
-        verdict, UAF_SHOWN_CONFIRMED, WHOLE(any.bytes), WHOLE(any.bytes), WHOLE(any.bytes), nonce, WHOLE(any.bytes)};
+    struct lent lent = {verdict, UAF_SHOWN_CONFIRMED, WHOLE(any.bytes), WHOLE(any.bytes), nonce};
     struct answer answer;
     memset(&answer, MARK, sizeof answer);
     uint32_t refusal = token_command(command, &lent, table, &answer);
@@ -157,4 +166,108 @@ void refusals(const struct afternoon *a)
     refuse_command("a Sign with a verdict of 256, whose low byte is 0", FILLED(sign), 256, WHOLE(nonce), table, UAF_REFUSED_LENT);
     refuse_completion("a draft to complete that is none", 0, UAF_REFUSED_BYTES);
     refuse_writing(northgate);
+}
+
+/* ---- whose command it is */
+
+/* Takes the last byte off the access token in a Sign. */
+static void cut_access_token(struct command *command)
+{
+    struct bytes rest = FILLED(*command), children, token;
+    uint16_t tag;
+    if (!tlv_next(&rest, &tag, &children) || !tlv_find(children, UAF_TAG_KEYHANDLE_ACCESS_TOKEN, &token))
+        fail_because("command", "no access token");
+    tlv_cut(command->bytes, &command->size, children, token);
+}
+
+/* The same bytes cut elsewhere: what the access token loses at its end stands in front of the AppID. */
+static void shifted_cut(struct caller northgate, struct bytes mixed, const struct table *table)
+{
+    static struct answer answer;
+    const struct hash any = sha256(nothing());
+    struct command command;
+    struct blob app_id = {.size = 1 + northgate.app_id.size};
+    app_id.bytes[0] = northgate.access_token.at[UAF_ACCESS_TOKEN_SIZE - 1];
+    copy(app_id.bytes + 1, northgate.app_id);
+    const struct caller whole = {FILLED(app_id), northgate.access_token};
+    const struct caller shifted = {FILLED(app_id), {northgate.access_token.at, UAF_ACCESS_TOKEN_SIZE - 1}};
+    struct hash hash = token_hash(shifted.access_token, shifted.app_id);
+    if (!same(WHOLE(hash.bytes), mixed))
+        fail_because("uaf_hash", "depends on where its bytes are cut");
+    show("  = 31 bytes of Northgate's access token, and the last one before its AppID, have the same hash\n");
+
+    memset(&command, MARK, sizeof command);
+    uint32_t refusal = write_sign(&command, shifted, WHOLE(any.bytes), NULL, nothing());
+    show_refusal("a Sign of these to write", refusal, UAF_REFUSED_FIELD, &command, sizeof command);
+    show("  > a Sign of these, whose access token was cut after it was written\n");
+    require_written(write_sign(&command, whole, WHOLE(any.bytes), NULL, nothing()));
+    cut_access_token(&command);
+    run_on(&command, table, &answer);
+    show_status(&answer, UAF_STATUS_PARAMS_INVALID);
+    require_same(&answer.left, table);
+    show("  = an access token has 32 bytes, so nobody is Northgate by another cut\n");
+}
+
+/* Northgate's access token without an AppID: its hash is another one, and so is the holder. */
+static void without_app_id(const struct afternoon *a, const struct table *table)
+{
+    static struct answer answer, registered;
+    const struct caller alone = {nothing(), WHOLE(a->firms[NORTHGATE].access_token.bytes)};
+    const struct hash ann = key_id_of(a, NORTHGATE, "Ann"), any = sha256(text("any"));
+    struct command command;
+    struct record record;
+    show("  > Northgate's access token and no AppID: Sign with Ann's key handle\n");
+    sign_on(alone, WHOLE(ann.bytes), table, &answer);
+    show_status(&answer, UAF_STATUS_ACCESS_DENIED);
+    require_same(&answer.left, table);
+
+    show("  > the same: Register Ann\n");
+    require_written(write_register(&command, alone, WHOLE(any.bytes), text("Ann"), UAF_BASIC_SURROGATE));
+    run_on(&command, table, &registered);
+    if (registered.kind != UAF_DRAFT || !record_find(&registered.left, WHOLE(any.bytes), &record))
+        fail_because("Register", "no record");
+    server_check_holder(alone, record.mixed);
+    if (same(record.mixed, WHOLE(a->firms[NORTHGATE].mixed.bytes)))
+        fail_because("Register", "an AppID that is missing makes no difference");
+    show("  < a draft to sign, %zu bytes; the new record's mixed token is ", registered.size);
+    show_short(record.mixed);
+    show("\n");
+
+    show("  > the same: Deregister with an empty KeyID\n");
+    require_written(write_deregister(&command, alone, nothing()));
+    run_on(&command, &registered.left, &answer);
+    show_status(&answer, UAF_STATUS_OK);
+    require_same(&answer.left, table);
+    show("  = that record is gone and Northgate's are there: without an AppID it is another holder\n");
+}
+
+/* A Deregister looks at nothing that is lent. */
+static void nothing_lent(const struct afternoon *a, const struct table *table)
+{
+    static struct answer answer;
+    const struct hash ann = key_id_of(a, NORTHGATE, "Ann");
+    struct command command;
+    struct record record;
+    show("  > Northgate: Deregister Ann's KeyID, with nothing lent and each lent number out of range\n");
+    require_written(write_deregister(&command, caller_of(&a->firms[NORTHGATE]), WHOLE(ann.bytes)));
+    const uint32_t wrong = UINT32_MAX;
+    uint32_t refusal = uaf_command(
+        command.bytes, command.size, NULL, 0, wrong, wrong, wrong, NULL, 0, wrong, wrong, NULL, 0, NULL, 0, NULL, 0, table->bytes,
+        table->size, answer.bytes, sizeof answer.bytes, answer.left.bytes, sizeof answer.left.bytes, &answer.kind, &answer.size,
+        &answer.left.size);
+    if (refusal != 0)
+        fail_because("Deregister", uaf_refusal_name(refusal));
+    show_status(&answer, UAF_STATUS_OK);
+    if (record_find(&answer.left, WHOLE(ann.bytes), &record))
+        fail_because("Deregister", "the record is still there");
+    show("  = the token has what it needs: the command says whose it is\n");
+}
+
+void whose_command(const struct afternoon *a)
+{
+    const struct table copy = a->terminal.table;
+    show("\n12. Whose command it is, on a copy of the table: the token hashes access token and AppID itself\n");
+    shifted_cut(caller_of(&a->firms[NORTHGATE]), WHOLE(a->firms[NORTHGATE].mixed.bytes), &copy);
+    without_app_id(a, &copy);
+    nothing_lent(a, &copy);
 }

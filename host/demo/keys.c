@@ -16,10 +16,19 @@ static _Noreturn void fail_crypto(const char *what)
 
 struct hash sha256(struct bytes bytes)
 {
+    return sha256_of_both(bytes, nothing());
+}
+
+struct hash sha256_of_both(struct bytes first, struct bytes second)
+{
     struct hash hash;
     unsigned int size = 0;
-    if (EVP_Digest(bytes.at, bytes.size, hash.bytes, &size, EVP_sha256(), NULL) != 1 || size != sizeof hash.bytes)
+    EVP_MD_CTX *context = EVP_MD_CTX_new();
+    if (context == NULL || EVP_DigestInit_ex(context, EVP_sha256(), NULL) != 1
+        || EVP_DigestUpdate(context, first.at, first.size) != 1 || EVP_DigestUpdate(context, second.at, second.size) != 1
+        || EVP_DigestFinal_ex(context, hash.bytes, &size) != 1 || size != sizeof hash.bytes)
         fail_crypto("SHA-256");
+    EVP_MD_CTX_free(context);
     return hash;
 }
 

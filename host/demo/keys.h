@@ -1,5 +1,6 @@
-/* What the token leaves to the firmware, by OpenSSL's libcrypto: SHA-256, random bytes, P-256 keys, ECDSA signatures and
- * the attestation certificate. Whatever fails in there ends the program. */
+/* What the token leaves to the firmware, by OpenSSL's libcrypto: random bytes, P-256 keys, ECDSA signatures and the attestation
+ * certificate; and SHA-256, for KeyIDs, for the firms' challenges, and to check the token's own hashes. Whatever fails in there
+ * ends the program. */
 #ifndef DEMO_KEYS_H
 #define DEMO_KEYS_H
 
@@ -8,6 +9,10 @@
 #include "bytes.h"
 
 struct hash sha256(struct bytes bytes);
+
+/* Of one stretch followed by another. */
+struct hash sha256_of_both(struct bytes first, struct bytes second);
+
 void random_bytes(uint8_t *at, size_t size);
 
 EVP_PKEY *key_new(void);

@@ -18,6 +18,13 @@ static bool is_hash_of(struct bytes value, struct bytes bytes)
     return same(value, WHOLE(hash.bytes));
 }
 
+/* What the token hashed, against libcrypto; and so what it gives when it is asked for the hash alone. */
+static bool is_token_hash_of(struct bytes value, struct bytes first, struct bytes second)
+{
+    struct hash hash = sha256_of_both(first, second), asked = token_hash(first, second);
+    return same(value, WHOLE(hash.bytes)) && same(WHOLE(asked.bytes), WHOLE(hash.bytes));
+}
+
 static void check_signature(const struct response *response, EVP_PKEY *key)
 {
     require(key != NULL, "no key to check with");
@@ -49,6 +56,11 @@ void server_enrol(struct server *server, const char *username, struct bytes chal
     account->public_key.size = public_key.size;
 }
 
+void server_check_holder(struct caller caller, struct bytes mixed)
+{
+    require(is_token_hash_of(mixed, caller.access_token, caller.app_id), "mixed token");
+}
+
 static struct account *account_of(struct server *server, struct bytes key_id)
 {
     for (size_t i = 0; i < server->count; i++)
@@ -65,7 +77,7 @@ const struct account *server_book(
     uint32_t count = number(field_of(response, UAF_TAG_COUNTERS));
     require(account != NULL, "no such account");
     require(is_hash_of(field_of(response, UAF_TAG_FINAL_CHALLENGE_HASH), challenge), "challenge");
-    require(content.size > 0 ? is_hash_of(content_hash, content) : content_hash.size == 0, "content");
+    require(content.size > 0 ? is_token_hash_of(content_hash, content, nothing()) : content_hash.size == 0, "content");
     check_signature(response, public_key_read(FILLED(account->public_key)));
     require(count > account->count, "a count that is not new");
     account->count = count;

@@ -39,7 +39,7 @@ static void check_table(const struct table *table)
     struct command command;
     struct answer answer;
     const struct bytes none = nothing();
-    const struct lent lent = {0, 0, none, none, none, none, none};
+    const struct lent lent = {0, 0, none, none, none};
     require_written(write_get_info(&command));
     if (token_command(FILLED(command), &lent, table, &answer) != 0)
         fail_because("table", "the token refuses it");

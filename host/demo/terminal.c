@@ -55,7 +55,7 @@ static void check_table(const struct table *table)
     struct answer answer;
     require_written(write_get_info(&command));
     struct bytes none = nothing();
-    struct lent lent = {0, 0, none, none, none, none, none};
+    struct lent lent = {0, 0, none, none, none};
     if (token_command(FILLED(command), &lent, table, &answer) != 0)
         fail_because(table_file, "the token refuses it; nothing was changed");
 }
@@ -225,11 +225,9 @@ uint32_t terminal_run(struct terminal *terminal, const struct request *request, 
     struct lent lent = {
         .verdict = request->verdict,
         .display = request->display,
-        .mixed = WHOLE(request->mixed.bytes),
         .key_id = WHOLE(key_id.bytes),
         .public_key = FILLED(public_key),
         .nonce = WHOLE(nonce),
-        .content_hash = WHOLE(request->content_hash.bytes),
     };
     uint32_t refusal = token_command(FILLED(request->command), &lent, &terminal->table, &answer);
     if (refusal == 0) {

@@ -15,11 +15,9 @@ struct terminal {
     bool quiet; /* says nothing of what it stores and removes */
 };
 
-/* A command, and what the finger, the display and the hash have to say to it. */
+/* A command, and what the finger and the display have to say to it. */
 struct request {
     struct command command;
-    struct hash mixed;
-    struct hash content_hash;
     uint32_t verdict;
     uint32_t display;
     uint32_t attestation; /* of a Register */

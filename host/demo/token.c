@@ -26,11 +26,9 @@ uint32_t token_command(struct bytes command, const struct lent *lent, const stru
         AUTHENTICATOR_VERSION, ALG_SIGN_SECP256R1_ECDSA_SHA256_DER, ALG_KEY_ECC_X962_DER,
         metadata, sizeof metadata,
         lent->verdict, lent->display,
-        lent->mixed.at, lent->mixed.size,
         lent->key_id.at, lent->key_id.size,
         lent->public_key.at, lent->public_key.size,
         lent->nonce.at, lent->nonce.size,
-        lent->content_hash.at, lent->content_hash.size,
         table->bytes, table->size,
         answer->bytes, sizeof answer->bytes,
         answer->left.bytes, sizeof answer->left.bytes,
@@ -44,6 +42,13 @@ uint32_t token_complete(
     return uaf_complete(
         kind, draft.at, draft.size, attestation, signature.at, signature.size, certificate.at, certificate.size,
         response->bytes, sizeof response->bytes, &response->size);
+}
+
+struct hash token_hash(struct bytes first, struct bytes second)
+{
+    struct hash hash;
+    uaf_hash(first.at, first.size, second.at, second.size, hash.bytes);
+    return hash;
 }
 
 uint32_t token_read(struct response *response)

@@ -16,11 +16,9 @@ struct table {
 struct lent {
     uint32_t verdict;
     uint32_t display;
-    struct bytes mixed;
     struct bytes key_id;
     struct bytes public_key;
     struct bytes nonce;
-    struct bytes content_hash;
 };
 
 /* What a command gives: a response, or a draft that is to be signed and completed; and the table left. */
@@ -50,6 +48,9 @@ uint32_t token_command(struct bytes command, const struct lent *lent, const stru
 uint32_t token_complete(
     uint32_t kind, struct bytes draft, uint32_t attestation, struct bytes signature, struct bytes certificate,
     struct response *response);
+
+/* The token's own SHA-256 of one stretch followed by another. */
+struct hash token_hash(struct bytes first, struct bytes second);
 
 /* Reads the size bytes of response->bytes and fills in the rest. */
 uint32_t token_read(struct response *response);

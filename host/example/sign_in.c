@@ -1,7 +1,7 @@
 /* A seller registers and signs in: the calls of the token that this takes, without a terminal around them. README.md quotes the function
  * `answer`, and host/tests/run holds the quotation against this file and runs it.
  *
- * What hardware works out stands here as fixed bytes; host/demo is the same with keys, hashes, signatures and files. */
+ * What hardware works out stands here as fixed bytes; host/demo is the same with keys, signatures and files. The token hashes for itself. */
 #include <stdio.h>
 #include <stdlib.h>
 #include <string.h>
@@ -9,13 +9,12 @@
 #include "uaf_token.h"
 
 /* What the terminal puts into the commands: a challenge hash for each, the seller's name, the access token. */
-static const uint8_t first[] = {0xC1}, second[] = {0xC2}, username[] = {'A', 'n', 'n'}, access_token[] = {0xAA};
+static const uint8_t first[] = {0xC1}, second[] = {0xC2}, username[] = {'A', 'n', 'n'}, access_token[UAF_ACCESS_TOKEN_SIZE] = {0xAA};
 
-/* What the firmware lends: the profile, the hash of access token and AppID, a new KeyID with its public key, a nonce, a hash of content. */
+/* What the firmware lends: the profile, a new KeyID with its public key, a nonce. */
 enum { VERSION = 1, ECDSA_SHA256_DER = 0x0002, ECC_X962_DER = 0x0101 };
 static const uint8_t aaid[UAF_AAID_SIZE] = {'4', 'A', '4', 'F', '#', '0', '0', '0', '1'}, metadata[UAF_METADATA_SIZE] = {0},
-                     mixed[UAF_MIXED_SIZE] = {0x11}, key_id[UAF_KEY_ID_SIZE] = {0x22}, public_key[] = {0x33},
-                     nonce[UAF_LEAST_NONCE] = {0x44}, hash[UAF_HASH_SIZE] = {0x55};
+                     key_id[UAF_KEY_ID_SIZE] = {0x22}, public_key[] = {0x33}, nonce[UAF_LEAST_NONCE] = {0x44};
 
 /* The table in its stored form; no bytes are the table without records. */
 static uint8_t table[UAF_LEAST_TABLE];
@@ -51,9 +50,8 @@ static size_t answer(const uint8_t *command, size_t size, uint8_t response[UAF_L
     size_t length, left_size;
     stop_if(uaf_command(
         command, size, aaid, sizeof aaid, VERSION, ECDSA_SHA256_DER, ECC_X962_DER, metadata, sizeof metadata,
-        UAF_VERIFIED, UAF_SHOWN_CONFIRMED, mixed, sizeof mixed, key_id, sizeof key_id, public_key, sizeof public_key,
-        nonce, sizeof nonce, hash, sizeof hash, table, table_size, draft, sizeof draft, left, sizeof left,
-        &kind, &length, &left_size));
+        UAF_VERIFIED, UAF_SHOWN_CONFIRMED, key_id, sizeof key_id, public_key, sizeof public_key, nonce, sizeof nonce,
+        table, table_size, draft, sizeof draft, left, sizeof left, &kind, &length, &left_size));
     keep_table(left, left_size); /* before anything is signed: no count is used twice */
     if (kind == UAF_RESPONSE) {
         memcpy(response, draft, length);

@@ -5,15 +5,18 @@
  *         holder, size of the name, its letter as put_name has it, the counter (32)
  *     then each call:
  *     8   flags: 1 the command's outer length is put right; 2 the verdict, 4 the display's result, 8 the version, 16 the signature
- *         algorithm, 32 the key algorithm is changed in 32 bits
+ *         algorithm, 32 the key algorithm is changed in 32 bits; 64 the holder's access token, 128 its AppID is put behind the command's children
  *     8   verdict, display's result, number of the holder, number of the KeyID, a byte that fills the other lent stretches and makes the
  *         profile's numbers
  *     32  for each flag of a number, in that order: its bits that are changed. So a number has 8 or 16 bits as a rule, and one that is out of
  *         range keeps its low bits where these are 0
- *     8   sizes of AAID, metadata, mixed token, KeyID, nonce, hash and public key, as take_size has them
+ *     8   sizes of AAID, metadata, KeyID, nonce, public key and access token, where it is put behind the children, as take_size has them (a token at
+ *         most 64)
  *     8   by how much (signed) response and table output are longer than their least; -128 makes them empty
  *     8   0, or up to which size a skipped child fills the command: 8,188 and 1 to 16 more, or else so many times 256
- *     16  size of the command, then the command */
+ *     16  size of the command, then the command
+ *
+ * A command meets the records of the holder whose access token and AppID it has. */
 #include <string.h>
 
 #include "harness.h"
@@ -21,6 +24,7 @@
 
 enum {
     MOST_CALLS = 4,
+    MOST_TOKEN = 64,
     MOST_TABLE = UINT16_MAX,
     MOST_COMMAND = 1 << 17,
     RECORD_PART = 8,
@@ -29,10 +33,13 @@ enum {
 
 /* The input's second flag, and a call's. */
 enum { BY_RECORDS = 2 };
-enum { MEND_OUTER = 1, CHANGE_VERDICT = 2, CHANGE_DISPLAY = 4, CHANGE_VERSION = 8, CHANGE_SIGNATURE = 16, CHANGE_KEY = 32 };
+enum {
+    MEND_OUTER = 1, CHANGE_VERDICT = 2, CHANGE_DISPLAY = 4, CHANGE_VERSION = 8, CHANGE_SIGNATURE = 16, CHANGE_KEY = 32,
+    PUT_TOKEN = 64, PUT_APP_ID = 128,
+};
 
 static struct {
-    struct input command, aaid, metadata, mixed, key_id, public_key, nonce, hash, table;
+    struct input command, aaid, metadata, key_id, public_key, nonce, table;
     struct output response, table_out, answer, response_length, table_length;
 } lent;
 
@@ -44,11 +51,9 @@ static void open_all(void)
     lent.command = open_input(MOST_COMMAND);
     lent.aaid = open_input(MOST_SIZE);
     lent.metadata = open_input(MOST_SIZE);
-    lent.mixed = open_input(MOST_SIZE);
     lent.key_id = open_input(MOST_SIZE);
     lent.public_key = open_input(MOST_SIZE);
     lent.nonce = open_input(MOST_SIZE);
-    lent.hash = open_input(MOST_SIZE);
     lent.table = open_input(MOST_TABLE);
     lent.response = open_output(UAF_LEAST_RESPONSE + INT8_MAX);
     lent.table_out = open_output(UAF_LEAST_TABLE + INT8_MAX);
@@ -58,14 +63,42 @@ static void open_all(void)
     open = true;
 }
 
-/* KeyIDs and mixed tokens have numbers, so that they meet again: sixteen of one repeated byte, and of each fifteen that differ from it in one
- * place. */
+/* KeyIDs have numbers, so that they meet again: sixteen of one repeated byte, and of each fifteen that differ from it in one place. */
 static void numbered(uint8_t *bytes, size_t size, unsigned number)
 {
     memset(bytes, (int)(number & 0x0F), size);
     size_t differs = 2 * (number >> 4) + 1;
     if (number >> 4 != 0 && differs < size)
         bytes[differs] ^= 0x10;
+}
+
+/* Holders have numbers too. The low four bits choose the access token, which is one repeated byte, the others the AppID: none, or letters up to some
+ * length at which with the token a block ends, or which is the least or the greatest. */
+struct holder {
+    uint8_t token[MOST_TOKEN], app_id[UAF_MOST_APP_ID];
+    size_t app_id_size;
+};
+
+static struct holder holder_by(unsigned number)
+{
+    static const uint16_t sizes[] = {0, 1, 2, 23, 24, 31, 32, 33, 87, 88, 95, 96, 511, 512};
+    struct holder holder = {.app_id_size = sizes[(number >> 4) % (sizeof sizes / sizeof *sizes)]};
+    memset(holder.token, (int)(number & 0x0F), sizeof holder.token);
+    for (size_t i = 0; i < holder.app_id_size; i++)
+        holder.app_id[i] = (uint8_t)('a' + i % 26);
+    return holder;
+}
+
+/* A record's mixed token. Those of the greatest numbers are nearly a holder's: its hash but for one bit, and its AppID hashed before its token. */
+static void put_mixed(uint8_t *at, unsigned number)
+{
+    struct holder holder = holder_by(number);
+    if (number >> 4 == 0x0F)
+        peer_hash(holder.app_id, holder.app_id_size, holder.token, UAF_ACCESS_TOKEN_SIZE, at);
+    else
+        peer_hash(holder.token, UAF_ACCESS_TOKEN_SIZE, holder.app_id, holder.app_id_size, at);
+    if (number >> 4 == 0x0E)
+        at[UAF_MIXED_SIZE - 1] ^= 1;
 }
 
 static uint8_t *put_header(uint8_t *at, unsigned tag, size_t size)
@@ -111,7 +144,7 @@ static uint8_t *put_record(uint8_t *at, struct source *part)
     at = put_header(at, 0x2E09, 32);
     numbered(at, 32, key);
     at = put_header(at + 32, 0x2805, 32);
-    numbered(at, 32, holder);
+    put_mixed(at, holder);
     at = put_header(at + 32, 0x2806, name_size);
     put_name(at, name_size, letter);
     at = put_header(at + name_size, 0x2E0D, 4);
@@ -137,6 +170,14 @@ static size_t take_table(struct source *source, bool by_records)
     return (size_t)(end - table);
 }
 
+/* What a call is, beside its command and what stands in the stretches. */
+struct caller {
+    unsigned flags;
+    struct holder holder;
+    size_t token_size;
+    uint32_t verdict, display, version, signature_algorithm, key_algorithm;
+};
+
 /* The size that a command is filled up to, mostly about the greatest. */
 static size_t take_goal(struct source *source)
 {
@@ -144,13 +185,24 @@ static size_t take_goal(struct source *source)
     return code > 0 && code <= 16 ? 8188 + code : 256 * code;
 }
 
-static size_t take_command(struct source *source, unsigned flags)
+static size_t put_child(uint8_t *at, unsigned tag, const uint8_t *value, size_t size)
+{
+    memcpy(put_header(at, tag, size), value, size);
+    return 4 + size;
+}
+
+static size_t take_command(struct source *source, const struct caller *caller)
 {
     uint8_t *command = lent.command.peer;
+    unsigned flags = caller->flags;
     size_t goal = take_goal(source);
     size_t size = take16(source);
     const uint8_t *bytes = take(source, &size);
     memcpy(command, bytes, size);
+    if ((flags & PUT_TOKEN) != 0)
+        size += put_child(command + size, 0x2805, caller->holder.token, caller->token_size);
+    if ((flags & PUT_APP_ID) != 0 && caller->holder.app_id_size > 0)
+        size += put_child(command + size, 0x2804, caller->holder.app_id, caller->holder.app_id_size);
     if (size + 4 <= goal) {
         size_t filler = goal - size - 4;
         memset(put_header(command + size, 0x0FFF, filler), 0xA5, filler);
@@ -162,11 +214,6 @@ static size_t take_command(struct source *source, unsigned flags)
     }
     return size;
 }
-
-/* The lent results that are numbers. */
-struct numbers {
-    uint32_t verdict, display, version, signature_algorithm, key_algorithm;
-};
 
 static void lend_numbered(struct input *input, size_t size, unsigned number, bool front)
 {
@@ -180,24 +227,25 @@ static uint32_t take_change(struct source *source, unsigned flags, unsigned flag
     return (flags & flag) != 0 ? take32(source) : 0;
 }
 
-static struct numbers take_results(struct source *source, unsigned flags, bool front)
+static struct caller take_results(struct source *source, bool front)
 {
+    unsigned flags = take8(source);
     uint8_t verdict = take8(source), display = take8(source), holder = take8(source), key = take8(source), fill = take8(source);
     uint32_t version = fill * 257u;
-    struct numbers numbers = {verdict, display, version, version ^ 0x1234, version ^ 0xFFFF};
-    numbers.verdict ^= take_change(source, flags, CHANGE_VERDICT);
-    numbers.display ^= take_change(source, flags, CHANGE_DISPLAY);
-    numbers.version ^= take_change(source, flags, CHANGE_VERSION);
-    numbers.signature_algorithm ^= take_change(source, flags, CHANGE_SIGNATURE);
-    numbers.key_algorithm ^= take_change(source, flags, CHANGE_KEY);
+    struct caller caller = {flags, holder_by(holder), 0, verdict, display, version, version ^ 0x1234, version ^ 0xFFFF};
+    caller.verdict ^= take_change(source, flags, CHANGE_VERDICT);
+    caller.display ^= take_change(source, flags, CHANGE_DISPLAY);
+    caller.version ^= take_change(source, flags, CHANGE_VERSION);
+    caller.signature_algorithm ^= take_change(source, flags, CHANGE_SIGNATURE);
+    caller.key_algorithm ^= take_change(source, flags, CHANGE_KEY);
     lend_filled(&lent.aaid, take_size(source), fill, front);
     lend_filled(&lent.metadata, take_size(source), fill + 1u, front);
-    lend_numbered(&lent.mixed, take_size(source), holder, front);
     lend_numbered(&lent.key_id, take_size(source), key, front);
     lend_filled(&lent.nonce, take_size(source), fill + 2u, front);
-    lend_filled(&lent.hash, take_size(source), fill + 3u, front);
     lend_filled(&lent.public_key, take_size(source), fill + 4u, front);
-    return numbers;
+    size_t token_size = take_size(source);
+    caller.token_size = token_size < MOST_TOKEN ? token_size : MOST_TOKEN;
+    return caller;
 }
 
 static void lend_outputs(struct source *source, bool front)
@@ -214,11 +262,9 @@ static void check_inputs(void)
     check_input(&lent.command, "command");
     check_input(&lent.aaid, "aaid");
     check_input(&lent.metadata, "metadata");
-    check_input(&lent.mixed, "mixed");
     check_input(&lent.key_id, "key_id");
     check_input(&lent.public_key, "public_key");
     check_input(&lent.nonce, "nonce");
-    check_input(&lent.hash, "hash");
     check_input(&lent.table, "table");
 }
 
@@ -237,22 +283,20 @@ static void cover_answer(uint32_t refusal, uint32_t answer, size_t table_length)
 }
 
 /* Both make the call; gives the size of the table left, which is then the table's. */
-static size_t call(const struct numbers *n)
+static size_t call(const struct caller *c)
 {
     uint32_t refusal = uaf_command(
-        lent.command.token, lent.command.size, lent.aaid.token, lent.aaid.size, n->version, n->signature_algorithm,
-        n->key_algorithm, lent.metadata.token, lent.metadata.size, n->verdict, n->display, lent.mixed.token, lent.mixed.size,
-        lent.key_id.token, lent.key_id.size, lent.public_key.token, lent.public_key.size, lent.nonce.token, lent.nonce.size,
-        lent.hash.token, lent.hash.size, lent.table.token, lent.table.size, lent.response.token, lent.response.size,
-        lent.table_out.token, lent.table_out.size, (uint32_t *)lent.answer.token, (size_t *)lent.response_length.token,
-        (size_t *)lent.table_length.token);
+        lent.command.token, lent.command.size, lent.aaid.token, lent.aaid.size, c->version, c->signature_algorithm,
+        c->key_algorithm, lent.metadata.token, lent.metadata.size, c->verdict, c->display, lent.key_id.token, lent.key_id.size,
+        lent.public_key.token, lent.public_key.size, lent.nonce.token, lent.nonce.size, lent.table.token, lent.table.size,
+        lent.response.token, lent.response.size, lent.table_out.token, lent.table_out.size, (uint32_t *)lent.answer.token,
+        (size_t *)lent.response_length.token, (size_t *)lent.table_length.token);
     uint32_t peers = peer_command(
-        lent.command.peer, lent.command.size, lent.aaid.peer, lent.aaid.size, n->version, n->signature_algorithm,
-        n->key_algorithm, lent.metadata.peer, lent.metadata.size, n->verdict, n->display, lent.mixed.peer, lent.mixed.size,
-        lent.key_id.peer, lent.key_id.size, lent.public_key.peer, lent.public_key.size, lent.nonce.peer, lent.nonce.size,
-        lent.hash.peer, lent.hash.size, lent.table.peer, lent.table.size, lent.response.peer, lent.response.size,
-        lent.table_out.peer, lent.table_out.size, (uint32_t *)lent.answer.peer, (size_t *)lent.response_length.peer,
-        (size_t *)lent.table_length.peer);
+        lent.command.peer, lent.command.size, lent.aaid.peer, lent.aaid.size, c->version, c->signature_algorithm,
+        c->key_algorithm, lent.metadata.peer, lent.metadata.size, c->verdict, c->display, lent.key_id.peer, lent.key_id.size,
+        lent.public_key.peer, lent.public_key.size, lent.nonce.peer, lent.nonce.size, lent.table.peer, lent.table.size,
+        lent.response.peer, lent.response.size, lent.table_out.peer, lent.table_out.size, (uint32_t *)lent.answer.peer,
+        (size_t *)lent.response_length.peer, (size_t *)lent.table_length.peer);
     check_returned(refusal, peers);
 
     bool served = refusal == 0;
@@ -287,12 +331,11 @@ int LLVMFuzzerTestOneInput(const uint8_t *data, size_t size)
     bool front = (flags & FRONT) != 0;
     size_t table_size = take_table(&source, (flags & BY_RECORDS) != 0);
     for (int calls = 0; calls < MOST_CALLS && (calls == 0 || source.left > 0); calls++) {
-        unsigned how = take8(&source);
-        struct numbers numbers = take_results(&source, how, front);
+        struct caller caller = take_results(&source, front);
         lend_outputs(&source, front);
-        lend_input(&lent.command, take_command(&source, how), front);
+        lend_input(&lent.command, take_command(&source, &caller), front);
         lend_input(&lent.table, table_size, front);
-        table_size = call(&numbers);
+        table_size = call(&caller);
     }
     return 0;
 }

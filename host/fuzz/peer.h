@@ -10,15 +10,15 @@ uint32_t peer_command(
     uint32_t version, uint32_t signature_algorithm, uint32_t key_algorithm,
     const uint8_t *metadata, size_t metadata_size,
     uint32_t verdict, uint32_t display,
-    const uint8_t *mixed, size_t mixed_size,
     const uint8_t *key_id, size_t key_id_size,
     const uint8_t *public_key, size_t public_key_size,
     const uint8_t *nonce, size_t nonce_size,
-    const uint8_t *hash, size_t hash_size,
     const uint8_t *table, size_t table_size,
     uint8_t *response, size_t response_size,
     uint8_t *table_out, size_t table_out_size,
     uint32_t *answer, size_t *response_length, size_t *table_length);
+
+void peer_hash(const uint8_t *first, size_t first_size, const uint8_t *second, size_t second_size, uint8_t hash[UAF_HASH_SIZE]);
 
 uint32_t peer_complete(
     uint32_t kind,

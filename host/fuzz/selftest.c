@@ -37,14 +37,17 @@ static const uint8_t *lend_bytes(const char *name, const uint8_t *bytes, size_t 
     return at;
 }
 
-/* The index comes last, as its value is looked at; that of an access token is not. */
+/* An access token, with its header. */
+#define EIGHT 0xAA, 0xAA, 0xAA, 0xAA, 0xAA, 0xAA, 0xAA, 0xAA
+#define TOKEN 0x05, 0x28, 32, 0, EIGHT, EIGHT, EIGHT, EIGHT
+
+/* Either the index or, as it is hashed, the access token comes last, for their values are looked at. */
 static const uint8_t GET_INFO[] = {0x01, 0x34, 0, 0};
 static const uint8_t REGISTER[] = {
-    0x02, 0x34, 0x1A, 0,    0x0A, 0x2E, 1, 0, 0xAA, 0x06, 0x28, 1, 0, 'A', 0x07,
-    0x28, 2,    0,    0x07, 0x3E, 0x05, 0x28, 1, 0, 0xAA, 0x0D, 0x28, 1, 0, 0,
+    0x02, 0x34, 57, 0, 0x0A, 0x2E, 1, 0, 0xAA, 0x06, 0x28, 1, 0, 'A', 0x07, 0x28, 2, 0, 0x07, 0x3E, TOKEN, 0x0D, 0x28, 1, 0, 0,
 };
 static const uint8_t SIGN[] = {
-    0x03, 0x34, 0x14, 0, 0x0A, 0x2E, 1, 0, 0xAA, 0x10, 0x28, 1, 0, 0xAA, 0x05, 0x28, 1, 0, 0xAA, 0x0D, 0x28, 1, 0, 0,
+    0x03, 0x34, 51, 0, 0x0A, 0x2E, 1, 0, 0xAA, 0x10, 0x28, 1, 0, 0xAA, 0x0D, 0x28, 1, 0, 0, TOKEN,
 };
 
 /* What a call left, for the calls after it. */
@@ -71,9 +74,8 @@ static bool command(const uint8_t *bytes, size_t size, size_t touched, size_t to
     size_t *table_length = (size_t *)lend("table_length", sizeof *table_length);
     uint32_t refusal = uaf_command(
         lend_bytes("command", bytes, size), size, lend_bytes("aaid", same, 9), 9, 1, 2, 3,
-        lend_bytes("metadata", same, 15), 15, UAF_VERIFIED, UAF_SHOWN_CONFIRMED, lend_bytes("mixed", same, 32), 32,
-        lend_bytes("key_id", same, 32), 32, lend_bytes("public_key", same, 512), 512, lend_bytes("nonce", same, 32), 32,
-        lend_bytes("hash", same, 32), 32, lend_bytes("table", table.bytes, table.size), table.size,
+        lend_bytes("metadata", same, 15), 15, UAF_VERIFIED, UAF_SHOWN_CONFIRMED, lend_bytes("key_id", same, 32), 32,
+        lend_bytes("public_key", same, 512), 512, lend_bytes("nonce", same, 32), 32, lend_bytes("table", table.bytes, table.size), table.size,
         response_at, UAF_LEAST_RESPONSE, table_at, UAF_LEAST_TABLE, answer, response_length, table_length);
     if (refusal != 0 || *response_length != touched || *table_length != touched_table)
         return false;
@@ -98,6 +100,16 @@ static bool run_register(void)
 static bool run_sign(void)
 {
     return command(SIGN, sizeof SIGN, SIGNED_DATA, RECORD);
+}
+
+/* Of a length that fills no block. */
+static bool run_hash(void)
+{
+    static const uint8_t same[100];
+    uint8_t *at = lend("hash", UAF_HASH_SIZE);
+    memset(at, 0, UAF_HASH_SIZE);
+    uaf_hash(lend_bytes("first", same, 32), 32, lend_bytes("second", same, 100), 100, at);
+    return memcmp(at, same, UAF_HASH_SIZE) != 0;
 }
 
 enum { COMPLETED = 4 + 6 + 4 + 4 + KRD + 4 + 516 + 2052 };
@@ -134,9 +146,9 @@ static bool run_read_fields(void)
 
 /* The writers, each with all that it can be given. The output has room for the command and no more. */
 enum {
-    WRITTEN_REGISTER = 4 + 5 + 13 + 36 + 7 + 6 + 24 + 11,
-    WRITTEN_SIGN = 4 + 5 + 13 + 36 + 54 + 24 + 11 + 2 * 36,
-    WRITTEN_DEREGISTER = 4 + 5 + 13 + 36 + 24,
+    WRITTEN_REGISTER = 4 + 5 + 13 + 36 + 7 + 6 + 36 + 11,
+    WRITTEN_SIGN = 4 + 5 + 13 + 36 + 54 + 36 + 11 + 2 * 36,
+    WRITTEN_DEREGISTER = 4 + 5 + 13 + 36 + 36,
 };
 
 static const uint8_t SAME[64];
@@ -144,7 +156,7 @@ static const uint8_t SAME[64];
 /* A field that the writer copies and does not look into. */
 #define FIELD(name, size) lend_bytes(name, SAME, size), size
 #define APP_ID UAF_GIVEN, FIELD("app_id", 9)
-#define ACCESS_TOKEN FIELD("access_token", 20)
+#define ACCESS_TOKEN FIELD("access_token", 32)
 #define VERIFY_TOKEN UAF_GIVEN, FIELD("verify_token", 7)
 
 static bool run_write_get_info(void)
@@ -235,10 +247,11 @@ static void try_each(const char *entry, bool (*run)(void), const char *const *na
 
 int main(void)
 {
-    try_each("Register", run_register, NAMES("command", "aaid", "mixed", "key_id", "public_key", "response", "table_out", "answer",
-                                             "response_length", "table_length"));
+    try_each("Register", run_register, NAMES("command", "aaid", "key_id", "public_key", "response", "table_out", "answer", "response_length",
+                                             "table_length"));
     try_each("Complete", run_complete, NAMES("draft", "signature", "certificate", "response", "response_length"));
-    try_each("Sign", run_sign, NAMES("command", "mixed", "nonce", "hash", "table", "response", "table_out"));
+    try_each("Sign", run_sign, NAMES("command", "nonce", "table", "response", "table_out"));
+    try_each("hash", run_hash, NAMES("first", "second", "hash"));
     try_each("GetInfo", run_get_info, NAMES("command", "aaid", "metadata", "table", "response", "table_out"));
     try_each("signed_part", run_signed_part, NAMES("response", "place", "length"));
     try_each("read_fields", run_read_fields, NAMES("response", "tag", "status", "count", "tags", "places", "lengths"));

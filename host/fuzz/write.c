@@ -1,9 +1,10 @@
-/* Fuzzes the five writers of commands. What is written is then run, on a table of two records of the caller's.
+/* Fuzzes the five writers of commands. What is written is then run, on a table of two records that are met without an AppID and one that is met with
+ * an AppID of 32 bytes.
  *
  *     8   flags: 1 buffers stand after the front guard page; 2 AppID, 4 transaction content, 8 USERVERIFY_TOKEN is given; 16, 32, 64 the number that
  *         says so of each, 128 the attestation type is changed in 32 bits
  *     8   which command, by its remainder: GetInfo, Register, Sign, Deregister, Open settings
- *     8   number of the KeyID, and a byte that fills the other stretches
+ *     8   number of the KeyID, and a byte that fills the other stretches but for AppID and access token, so that records are met
  *     32  for each flag of a number, in that order: its bits that are changed
  *     16  the bits in which the attestation type differs from full attestation
  *     8   sizes of AppID, challenge hash, access token, KeyID, content and USERVERIFY_TOKEN, as take_field_size has them
@@ -37,7 +38,7 @@ static struct {
 
 /* For the command that was written. */
 static struct {
-    struct input command, aaid, metadata, mixed, key_id, public_key, nonce, hash, table;
+    struct input command, aaid, metadata, key_id, public_key, nonce, table;
     struct output response, table_out, answer, response_length, table_length;
 } lent;
 
@@ -48,12 +49,12 @@ struct asked {
     uint32_t app_id_given, content_given, verify_given, attestation;
 };
 
-/* The two records, as far as they are registered yet. */
+/* The three records, as far as they are registered yet. */
 static size_t table_size;
 
 /* ---- the fields of an input */
 
-/* KeyIDs have numbers from 0 to 3, of which the table has the first two. Where several run together, their numbers go on from the first one's. */
+/* KeyIDs have numbers from 0 to 3, of which the table has the first three. Where several run together, their numbers go on from the first one's. */
 static void lend_keys(struct input *input, size_t size, unsigned number, bool front)
 {
     for (size_t i = 0; i < size; i++)
@@ -140,9 +141,9 @@ static struct asked take_fields(struct source *source)
     asked.verify_given = take_mark(source, flags, GIVE_VERIFY, CHANGE_VERIFY);
     asked.attestation = UAF_BASIC_FULL ^ take_change(source, flags, CHANGE_TYPE);
     asked.attestation ^= take16(source);
-    lend_filled(&given.app_id, take_field_size(source), fill, front);
+    lend_filled(&given.app_id, take_field_size(source), 'a', front);
     lend_filled(&given.challenge, take_field_size(source), fill + 1, front);
-    lend_filled(&given.access_token, take_field_size(source), fill + 2, front);
+    lend_filled(&given.access_token, take_field_size(source), 'A', front);
     lend_keys(&given.key_id, take_field_size(source), fill, front);
     lend_filled(&given.content, take_field_size(source), fill + 3, front);
     lend_filled(&given.verify_token, take_field_size(source), fill + 4, front);
@@ -249,11 +250,9 @@ static void lend_results(const struct asked *asked)
     bool front = asked->front;
     lend_filled(&lent.aaid, UAF_AAID_SIZE, 1, front);
     lend_filled(&lent.metadata, UAF_METADATA_SIZE, 2, front);
-    lend_filled(&lent.mixed, UAF_MIXED_SIZE, 3, front);
     lend_keys(&lent.key_id, UAF_KEY_ID_SIZE, asked->key, front);
     lend_filled(&lent.public_key, 91, 4, front);
     lend_filled(&lent.nonce, UAF_LEAST_NONCE, 5, front);
-    lend_filled(&lent.hash, UAF_HASH_SIZE, 6, front);
     lend_input(&lent.table, table_size, front);
     lend_output(&lent.response, UAF_LEAST_RESPONSE, front);
     lend_output(&lent.table_out, UAF_LEAST_TABLE, front);
@@ -264,9 +263,8 @@ static void lend_results(const struct asked *asked)
 
 #define LEND_RESULTS(side) \
     LEND(lent.command, side), LEND(lent.aaid, side), 1, 2, 3, LEND(lent.metadata, side), UAF_VERIFIED, UAF_SHOWN_CONFIRMED, \
-        LEND(lent.mixed, side), LEND(lent.key_id, side), LEND(lent.public_key, side), LEND(lent.nonce, side), LEND(lent.hash, side), \
-        LEND(lent.table, side), LEND(lent.response, side), LEND(lent.table_out, side), (uint32_t *)lent.answer.side, \
-        (size_t *)lent.response_length.side, (size_t *)lent.table_length.side
+        LEND(lent.key_id, side), LEND(lent.public_key, side), LEND(lent.nonce, side), LEND(lent.table, side), LEND(lent.response, side), \
+        LEND(lent.table_out, side), (uint32_t *)lent.answer.side, (size_t *)lent.response_length.side, (size_t *)lent.table_length.side
 
 /* Both run the command, which breaks no rule, so there is an answer and it is not 0x08. Gives the size of the table left. */
 static size_t run_both(const struct asked *asked)
@@ -322,11 +320,9 @@ static void open_stretches(void)
     lent.command = open_input(UAF_MOST_COMMAND);
     lent.aaid = open_input(UAF_AAID_SIZE);
     lent.metadata = open_input(UAF_METADATA_SIZE);
-    lent.mixed = open_input(UAF_MIXED_SIZE);
     lent.key_id = open_input(UAF_KEY_ID_SIZE);
     lent.public_key = open_input(UAF_MOST_PUBLIC_KEY);
     lent.nonce = open_input(UAF_MOST_NONCE);
-    lent.hash = open_input(UAF_HASH_SIZE);
     lent.table = open_input(UAF_LEAST_TABLE);
     lent.response = open_output(UAF_LEAST_RESPONSE);
     lent.table_out = open_output(UAF_LEAST_TABLE);
@@ -335,11 +331,11 @@ static void open_stretches(void)
     lent.table_length = open_output(sizeof(size_t));
 }
 
-/* Registers the two records, each by a short input. */
+/* Registers the three records, each by a short input, the last with an AppID. */
 static void open_table(void)
 {
-    for (uint8_t key = 0; key < 2; key++) {
-        const uint8_t input[] = {0, REGISTER, key};
+    for (uint8_t key = 0; key < 3; key++) {
+        const uint8_t input[] = {key < 2 ? 0 : GIVE_APP_ID, REGISTER, key};
         size_t before = table_size;
         struct source source = {input, sizeof input};
         table_size = write_and_run(&source);

@@ -21,8 +21,8 @@
  * one, 6. So every name that the token writes or reads is text, and who has to shorten a name cuts it between two letters.
  *
  * What they need. The archive is for x86-64, ELF, the System V calling convention. It calls no function outside itself, not even of the C
- * library; it has no data that is written, uses no heap and makes no system call. A command takes less than 2 KB of stack, completion, reader and
- * writers less than 1. */
+ * library; it has no data that is written, uses no heap and makes no system call. A command takes less than 3 KB of stack, the hash less than 2,
+ * completion, reader and writers less than 1. */
 #ifndef UAF_TOKEN_H
 #define UAF_TOKEN_H
 
@@ -37,11 +37,13 @@ extern "C" {
  * stored form or what an entry answers has changed or is gone. The minor number rises where something was added that such a caller need not
  * know, and begins again at 0 with a new major one.
  *
+ * 3.0: the token hashes. uaf_command has two stretches fewer, the mixed token and the hash of the content, and works both out itself; an access
+ * token has 32 bytes, where 2.1 took 1 to 32. uaf_hash is new. Stored tables are those of 2.1.
  * 2.1: the writers of commands, and refusal 6, which only they give.
  * 2.0: a username is UTF-8. For 1.0 any 1 to 128 bytes were one, so a table that 1.0 wrote may have a name for which 2.0 refuses it. */
-#define UAF_TOKEN_MAJOR 2
-#define UAF_TOKEN_MINOR 1
-#define UAF_TOKEN_VERSION "2.1"
+#define UAF_TOKEN_MAJOR 3
+#define UAF_TOKEN_MINOR 0
+#define UAF_TOKEN_VERSION "3.0"
 
 /* Refusals, statuses and tags stand in a list each, one X(NAME, number) for each of them. From these are made, below, the constants
  * UAF_REFUSED_NAME, UAF_STATUS_NAME and UAF_TAG_NAME, and the functions that give names for a log. */
@@ -174,7 +176,7 @@ static inline const char *uaf_tag_name(size_t tag)
 /* Lengths of what is lent, and of the fields in a command that have one. */
 #define UAF_AAID_SIZE 9
 #define UAF_METADATA_SIZE 15
-#define UAF_MIXED_SIZE 32
+#define UAF_MIXED_SIZE 32 /* a mixed token, which is a hash */
 #define UAF_KEY_ID_SIZE 32 /* KeyID, and key handle, which is a KeyID */
 #define UAF_HASH_SIZE 32
 #define UAF_LEAST_NONCE 8
@@ -185,7 +187,7 @@ static inline const char *uaf_tag_name(size_t tag)
 #define UAF_MOST_APP_ID 512
 #define UAF_MOST_CHALLENGE 32
 #define UAF_MOST_USERNAME 128 /* bytes, not letters: UTF-8, as is said above */
-#define UAF_MOST_ACCESS_TOKEN 32
+#define UAF_ACCESS_TOKEN_SIZE 32
 
 /* The verdict of the fingerprint. */
 #define UAF_VERIFIED 0
@@ -215,7 +217,7 @@ static inline const char *uaf_tag_name(size_t tag)
  *
  * 6 is a field that breaks its rule, which is the one that uaf_command goes by, or a command of more than UAF_MOST_COMMAND bytes: AppID is 1 to 512
  * bytes, the challenge hash 1 to 32, a username as is said above, an attestation type 0 to 65,535 (Register answers those that are neither of the two with
- * 0x07), the access token 1 to 32, a KeyID 32 or, for all records of the holder, 0, a key handle 32 and at most 8 of them; transaction content and
+ * 0x07), the access token 32, a KeyID 32 or, for all records of the holder, 0, a key handle 32 and at most 8 of them; transaction content and
  * USERVERIFY_TOKEN are as long as the command has room for.
  *
  * Given or not. AppID, transaction content and USERVERIFY_TOKEN may be left away: before each stands UAF_GIVEN or UAF_NOT_GIVEN, and any other number is
@@ -260,14 +262,21 @@ uint32_t uaf_write_deregister(
 
 uint32_t uaf_write_open_settings(uint8_t *command, size_t command_size, size_t *command_length);
 
+/* SHA-256 (FIPS 180-4) of the bytes of a first stretch followed by those of a second, either of which may be empty: for a mixed token the access token,
+ * then the AppID. It has no refusal and gives a hash for every length; *hash has UAF_HASH_SIZE bytes. */
+void uaf_hash(const uint8_t *first, size_t first_size, const uint8_t *second, size_t second_size, uint8_t hash[UAF_HASH_SIZE]);
+
 /* Runs GetInfo, Register, Sign, Deregister or Open settings on a table in its stored form; the table before the first call has length 0.
  * Refusals, in this order: 1, 2, 3, 4.
  *
- * Lent are the profile (AAID of 9 bytes, version and algorithms, metadata of 15 bytes), the verdict, the display's result, the mixed token
- * (32 bytes: the hash of access token followed by AppID), a new KeyID (32) with its public key (1 to 512), a nonce (8 to 32) and the hash of the
- * transaction content (32). A command looks at what it uses, whatever the verdict and whether or not there is content: GetInfo at the profile;
- * Register at profile, verdict, mixed token, KeyID and public key; Sign at profile, verdict, display's result, mixed token, nonce and hash, so
- * that a Sign without content is lent 32 bytes too; Deregister at the mixed token; Open settings at nothing.
+ * Lent are the profile (AAID of 9 bytes, version and algorithms, metadata of 15 bytes), the verdict, the display's result, a new KeyID (32) with its
+ * public key (1 to 512) and a nonce (8 to 32). A command looks at what it uses, whatever the verdict and whether or not there is content: GetInfo at
+ * the profile; Register at profile, verdict, KeyID and public key; Sign at profile, verdict, display's result and nonce; Deregister and Open
+ * settings at nothing, so that they are never refused with 4.
+ *
+ * Hashes are the token's own. The holder's mixed token, by which a record is its holder's, is SHA-256 of the command's access token followed by its
+ * AppID, or of the access token alone where no AppID is given: uaf_hash gives it to whoever needs it. The hash in signed data is SHA-256 of the
+ * transaction content; without content, or with an empty one, nothing is hashed and the field has length 0.
  *
  * Numbers. Each lent number has 32 bits here, so that C cuts nothing off before the token judges it: as 8 bits a verdict of 256 would be 0,
  * verified. Out of range, and so refusal 4 for a command that looks at it, are a verdict over 5, a display's result over 3, and a version, a
@@ -286,11 +295,9 @@ uint32_t uaf_command(
     uint32_t version, uint32_t signature_algorithm, uint32_t key_algorithm,
     const uint8_t *metadata, size_t metadata_size,
     uint32_t verdict, uint32_t display,
-    const uint8_t *mixed, size_t mixed_size,
     const uint8_t *key_id, size_t key_id_size,
     const uint8_t *public_key, size_t public_key_size,
     const uint8_t *nonce, size_t nonce_size,
-    const uint8_t *hash, size_t hash_size,
     const uint8_t *table, size_t table_size,
     uint8_t *response, size_t response_size,
     uint8_t *table_out, size_t table_out_size,

@@ -13,11 +13,10 @@ use borrow.Author.Tests.{ltb-true, ltb-false}
 use Rattle.model.specs.Tlv as tlv
 use Rattle.model.specs.Tlv.{broken}
 use Rattle.model.specs.Records.{Table, maxStored, encode, tableOk}
-use Rattle.model.specs.Commands.{Lent, leastOutput, shortOutput, stored, tableOf, lentOk, Result, refused, gave, Effect, apply, perform, Answer, bytesOf, Outputs, outputs}
+use Rattle.model.specs.Commands.{Lent, mixedIn, leastOutput, shortOutput, stored, tableOf, lentOk, Result, refused, gave, Effect, apply, perform, Answer, bytesOf, Outputs, outputs}
 use Rattle.model.proofs.Basics.{split, either, or-left, or-right}
 use Rattle.model.proofs.LentLaws.{lent-rules}
 use Rattle.tlv.specs.Writing.{Wrote}
-use Rattle.tlv.specs.declared.heads.Span.{Span}
 use Rattle.tlv.proofs.WriteLaws.{front}
 use Rattle.params.specs.Kinds.{namedAs}
 use Rattle.params.specs.Lent.{lentOf, call}
@@ -30,10 +29,12 @@ use Rattle.stored_table.specs.Index.{IndexIs}
 use Rattle.stored_table.specs.Changes.{changeOf}
 use Rattle.stored_table.specs.declared.index.Index.{Index}
 use Rattle.replies.specs.Replies as replies
-use Rattle.replies.specs.Replies.{answerOf, replySize, Ready, Short}
+use Rattle.replies.specs.Replies.{answerOf, challengeLen, replySize, Ready, Short}
 use Rattle.replies.specs.declared.reply.Shape.{Shape}
 use Rattle.replies.proofs.ReplyLaws.{draft-is, ready, short, size-most}
+use Rattle.commands.specs.Callers.{looks}
 use Rattle.commands.specs.Decisions.{namedBy, Decides}
+use Rattle.commands.proofs.CallerLaws.{performed-for-caller}
 use Rattle.commands.specs.declared.decision.Decision.{Decision}
 use Rattle.authenticator.specs.Outcomes.{isDraft, outputsOf, Ended, ended, ends}
 use Rattle.authenticator.specs.declared.outcome.Outcome.the-variants.{Refused, Gave}
@@ -74,11 +75,9 @@ kind-named e h = sym h ∙ ap namedAs e
 
 -- ---- what is asked where a command is performed
 
--- Register is lent a mixed token and a KeyID of 32 bytes
-pub register-lent : {k : tlv.Kind} (l : Lent) → lentOk k l ≡ true → k ≡ tlv.register → (length (l .mixed) ≡ 32) × (length (l .keyId) ≡ 32)
-register-lent l h e =
-    let r = lent-rules tlv.register l (rw e at h) in
-    (r .mixed-token, r .key-id)
+-- Register is lent a KeyID of 32 bytes
+pub register-lent : {k : tlv.Kind} (l : Lent) → lentOk k l ≡ true → k ≡ tlv.register → length (l .keyId) ≡ 32
+register-lent l h e = lent-rules tlv.register l (rw e at h) .key-id
 
 -- the challenge hash of a command that breaks a rule is an empty part
 pub challenge-ordered : {k : tlv.Kind} {s : List ℕ} {p : Params} → ParamsRead k s p → p .«challenge_hash» .start ≤ p .«challenge_hash» .end
@@ -92,34 +91,42 @@ draft-told : (k : tlv.Kind) (s : List ℕ) (l : Lent) (t : Table) (named : List 
     → isDraft (answerOf k s l t named x) ≡ replies.isDraft x
 draft-told k s l t named x = ap isDraft (draft-is k s l t named x) ∙ split (replies.isDraft x) (λ e. rw e) (λ e. rw e)
 
-module _ {k : tlv.Kind} {s : List ℕ} {n : Numbers} {m key : List ℕ} {t : Table} {c : Span} {chosen : List ℕ} {d : Decision}
-    (p : Decides k s n m key t c chosen d) (aaid metadata publicKey nonce hash : List ℕ) where
+module _ {k : tlv.Kind} {s : List ℕ} {n : Numbers} {m key : List ℕ} {t : Table} {c : Params} {chosen : List ℕ} {d : Decision}
+    (p : Decides k s n m key t c chosen d) (aaid metadata publicKey nonce : List ℕ) where
   abbrev l : Lent
-  l = lentOf aaid n metadata m key publicKey nonce hash
+  l = lentOf aaid n metadata key publicKey nonce
 
   module _ (h : lentOk k l ≡ true) where
-    -- the reply can be written, whatever mixed token is named: no writer looks at it
-    pub reply-ready : (x : List ℕ) → Ready s (lentOf aaid n metadata x key publicKey nonce hash) t c (namedBy chosen d) (d .shape)
-    reply-ready x = ready l x h (p .sound)
+    -- the reply can be written
+    pub reply-ready : Ready s l t c (namedBy chosen d) (d .shape)
+    reply-ready = ready l h (p .sound)
 
-    pub reply-short : Short (c .end - c .start) (length publicKey) (length nonce) t (namedBy chosen d) (d .shape)
-    reply-short = short (reply-ready m)
+    pub reply-short : Short (challengeLen c) (length publicKey) (length nonce) t (namedBy chosen d) (d .shape)
+    reply-short = short reply-ready
 
     -- an output that is not too short takes it
     pub reply-fits : (len room : ℕ) → tableOk t ≡ true
-        → len ≡ replySize (c .end - c .start) (length publicKey) (length nonce) t (namedBy chosen d) (d .shape) → leastOutput ≤ room → len ≤ room
-    reply-fits len room ok e r = omega (arith, size-most (reply-ready m) ok)
+        → len ≡ replySize (challengeLen c) (length publicKey) (length nonce) t (namedBy chosen d) (d .shape) → leastOutput ≤ room → len ≤ room
+    reply-fits len room ok e r = omega (arith, size-most reply-ready ok)
 
   -- ---- what a call gives
 
   abbrev answer : Answer
   answer = answerOf k s l t (namedBy chosen d) (d .shape)
 
-  -- a reply and a table that were written as they were decided
-  pub ends-gave : (o : ℕ) (u : Option ℕ) {b : Bool} {len left r : ℕ} {out out′ tab tab′ : List ℕ} → b ≡ replies.isDraft (d .shape)
+  -- a reply and a table that were written as they were decided, for the caller's mixed token or one that is not looked at
+  pub ends-gave : (looks k (broken k s) (n .verdict) ≡ true → m ≡ mixedIn s) → (o : ℕ) (u : Option ℕ) {b : Bool} {len left r : ℕ} {out out′ tab tab′ : List ℕ} → b ≡ replies.isDraft (d .shape)
       → Wrote out 0 (bytesOf answer) len out′ r → Wrote tab 0 (encode (apply m (changeOf s key t (d .change)) t)) left tab′ left
       → ended (Gave b len left) out′ tab′ ≡ ends (gave (perform k (call s l o u) t)) (outputsOf out tab)
-  unfolding ends perform outputs
-  ends-gave o u {b} f w v =
+  unfolding ends outputs
+  ends-gave caller o u {b} f w v =
       let g : isDraft answer ≡ b = draft-told k s l t (namedBy chosen d) (d .shape) ∙ sym f in
-      rw (← p .is aaid metadata publicKey nonce hash, front w .1, front v .1, g, w .size, v .size)
+      rw (
+        ← performed-for-caller m k (call s l o u) t caller,
+        ← p .is aaid metadata publicKey nonce,
+        front w .1,
+        front v .1,
+        g,
+        w .size,
+        v .size,
+      )

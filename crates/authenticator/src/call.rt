@@ -1,4 +1,5 @@
 use crate::outcome::Outcome;
+use commands::caller::mixed_token;
 use commands::decide::decide;
 use fields::LEAST_OUTPUT;
 use fields::refusals::BROKEN_TABLE;
@@ -41,24 +42,22 @@ fn is_short(response: usize, table: usize) -> bool
     table < MAX_STORED
 }
 
-// A call that is not refused: its command is parsed, decided, the reply written, and the table left.
+// A call that is not refused: its command is parsed, its caller's mixed token worked out, the command decided, the reply written, and the table left.
 fn perform(
     kind: Kind,
     command: &[u8],
     aaid: &[u8],
     numbers: Numbers,
     metadata: &[u8],
-    mixed: &[u8],
     key_id: &[u8],
     public_key: &[u8],
     nonce: &[u8],
-    hash: &[u8],
     table: &[u8],
     places: &[usize],
     response: &mut [u8],
     table_out: &mut [u8],
 ) -> Outcome
-    requires { ⌜ lentOk (kindIs kind) (lentOf (now aaid) numbers (now metadata) (now mixed) (now «key_id») (now «public_key») (now nonce) (now hash)) ≡ true ⌝ }
+    requires { ⌜ lentOk (kindIs kind) (lentOf (now aaid) numbers (now metadata) (now «key_id») (now «public_key») (now nonce)) ≡ true ⌝ }
     requires { ⌜ Indexed (now table) (now places) ⌝ }
     requires { ⌜ (leastOutput ≤ length (now response)) × (maxStored ≤ length (now «table_out»)) ⌝ }
     ensures { λ r. ⌜
@@ -66,13 +65,13 @@ fn perform(
         ≡ ends
         (gave (perform (kindIs kind)
         (call (now (command .entry))
-        (lentOf (now (aaid .entry)) numbers (now (metadata .entry)) (now (mixed .entry)) (now («key_id» .entry)) (now («public_key» .entry))
-        (now (nonce .entry)) (now (hash .entry))) (length (now (response .entry))) (some (length (now («table_out» .entry)))))
+        (lentOf (now (aaid .entry)) numbers (now (metadata .entry)) (now («key_id» .entry)) (now («public_key» .entry)) (now (nonce .entry))) (length (now (response .entry))) (some (length (now («table_out» .entry)))))
         (tableIn (now (table .entry)))))
         (outputsOf (now (response .entry)) (now («table_out» .entry))) ⌝ }
 {
     let mut handles = [0usize; MOST_HANDLES];
     let params = params_of(command, kind, &mut handles);
+    let mixed = mixed_token(kind, command, params, numbers.verdict);
     let mut chosen = [0usize; MAX_OWN];
     let decision = decide(
         kind,
@@ -80,7 +79,7 @@ fn perform(
         params,
         &handles,
         numbers,
-        mixed,
+        &mixed,
         key_id,
         table,
         places,
@@ -89,8 +88,15 @@ fn perform(
     let n = decision.named;
     let named = &chosen[0..n];
     let shape = decision.shape;
-    let challenge = params.challenge_hash;
-    let len = reply_len(shape, named, challenge, public_key, nonce, table, places);
+    let len = reply_len(
+        shape,
+        named,
+        params.challenge_hash,
+        public_key,
+        nonce,
+        table,
+        places,
+    );
     write_reply(
         response,
         shape,
@@ -98,19 +104,18 @@ fn perform(
         len,
         kind,
         command,
-        challenge,
+        params,
         aaid,
         numbers,
         metadata,
         key_id,
         public_key,
         nonce,
-        hash,
         table,
         places,
     );
     let change = decision.change;
-    let table_len = put_left(table_out, table, places, change, command, mixed, key_id);
+    let table_len = put_left(table_out, table, places, change, command, &mixed, key_id);
     Outcome::Gave {
         draft: shape.is_draft(),
         response_len: len,
@@ -124,11 +129,9 @@ pub fn call(
     aaid: &[u8],
     numbers: Numbers,
     metadata: &[u8],
-    mixed: &[u8],
     key_id: &[u8],
     public_key: &[u8],
     nonce: &[u8],
-    hash: &[u8],
     table: &[u8],
     response: &mut [u8],
     table_out: &mut [u8],
@@ -138,8 +141,7 @@ pub fn call(
         ≡ ends
         (outcome
         (call (now (command .entry))
-        (lentOf (now (aaid .entry)) numbers (now (metadata .entry)) (now (mixed .entry)) (now («key_id» .entry)) (now («public_key» .entry))
-        (now (nonce .entry)) (now (hash .entry))) (length (now (response .entry))) (some (length (now («table_out» .entry)))))
+        (lentOf (now (aaid .entry)) numbers (now (metadata .entry)) (now («key_id» .entry)) (now («public_key» .entry)) (now (nonce .entry))) (length (now (response .entry))) (some (length (now («table_out» .entry)))))
         (stored (now (table .entry))))
         (outputsOf (now (response .entry)) (now («table_out» .entry))) ⌝ }
 {
@@ -155,17 +157,7 @@ pub fn call(
     let Named::Command(kind) = named else {
         return Outcome::Refused(NO_COMMAND);
     };
-    if !lent_ok(
-        kind,
-        aaid,
-        numbers,
-        metadata,
-        mixed,
-        key_id,
-        public_key,
-        nonce,
-        hash,
-    ) {
+    if !lent_ok(kind, aaid, numbers, metadata, key_id, public_key, nonce) {
         return Outcome::Refused(WRONG_LENT);
     }
     let n = index.len;
@@ -175,11 +167,9 @@ pub fn call(
         aaid,
         numbers,
         metadata,
-        mixed,
         key_id,
         public_key,
         nonce,
-        hash,
         table,
         &places[0..n],
         response,

@@ -32,11 +32,9 @@ pub fn run(
     aaid: &[u8],
     numbers: Numbers,
     metadata: &[u8],
-    mixed: &[u8],
     key_id: &[u8],
     public_key: &[u8],
     nonce: &[u8],
-    hash: &[u8],
     t: Table,
     response: &mut [u8],
 ) -> Ran
@@ -45,8 +43,7 @@ pub fn run(
         ≡ ends
         (outcome
         (call (now (command .entry))
-        (lentOf (now (aaid .entry)) numbers (now (metadata .entry)) (now (mixed .entry)) (now («key_id» .entry)) (now («public_key» .entry))
-        (now (nonce .entry)) (now (hash .entry))) (length (now (response .entry))) none)
+        (lentOf (now (aaid .entry)) numbers (now (metadata .entry)) (now («key_id» .entry)) (now («public_key» .entry)) (now (nonce .entry))) (length (now (response .entry))) none)
         (value (viewTable t)))
         t (now (response .entry)) ⌝ }
 {
@@ -58,11 +55,9 @@ pub fn run(
         aaid,
         numbers,
         metadata,
-        mixed,
         key_id,
         public_key,
         nonce,
-        hash,
         &form[0..size],
         response,
         &mut left,

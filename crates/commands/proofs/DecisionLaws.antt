@@ -21,13 +21,13 @@ use Rattle.model.proofs.LayoutLaws.{fits-most}
 use Rattle.tlv.specs.Heads.{part}
 use Rattle.tlv.specs.declared.heads.Span.{Span}
 use Rattle.params.specs.Lent.{lentOf}
-use Rattle.params.specs.Parse.{Placed, ParamsRead}
+use Rattle.params.specs.Parse.{Placed, ParamsPlaced, ParamsRead}
 use Rattle.params.specs.declared.lent.Numbers.{Numbers}
 use Rattle.params.specs.declared.parse.Params.{Params}
 use Rattle.stored_table.specs.Changes.{removal, Can}
 use Rattle.stored_table.specs.declared.left.Change.{Change}
 use Rattle.stored_table.specs.declared.left.Change.the-variants.{Keep, Add, Remove}
-use Rattle.replies.specs.Replies.{answerOf, Challenge, SoundShape, Sound}
+use Rattle.replies.specs.Replies.{answerOf, Quoted, SoundShape, Sound}
 use Rattle.replies.specs.declared.reply.Shape.{Shape}
 use Rattle.replies.specs.declared.reply.Shape.the-variants.{Status, Registration}
 use Rattle.commands.specs.Decisions.{decision, decisionOf, Decides, DecidesAlways}
@@ -53,34 +53,34 @@ judge-passed cs e o = judged (λ (j : Judged). j ≡ Passes → Passed cs) cs Fa
 -- ---- a command by its checks
 
 -- a reply that names no record
-pub plain-sound : {k : Kind} {s : List ℕ} {t : records.Table} {c : Span} (x : Shape) → SoundShape k s t c x → Sound k s t c [] x
+pub plain-sound : {k : Kind} {s : List ℕ} {t : records.Table} {c : Params} (x : Shape) → SoundShape k s t c x → Sound k s t c [] x
 plain-sound x h = record { named-there = record { few = omega arith; each = λ i l. absurd (omega arith) }; own-shape = h }
 
 -- these are its checks, and v is what it decides where they pass, by what is lent
 pub record Checked (k : Kind) (s : List ℕ) (n : Numbers) (m key : List ℕ) (t : records.Table) (cs : List Check)
     (v : Lent → model.Decision) : Type 0 where
-  pub by : (aaid metadata publicKey nonce hash : List ℕ)
-      → let l = lentOf aaid n metadata m key publicKey nonce hash in
+  pub by : (aaid metadata publicKey nonce : List ℕ)
+      → let l = lentOf aaid n metadata key publicKey nonce in
       decide k s l (own m t) (among key (keyIds t)) (leb maxRecords (length t)) ≡ judge cs (only k keep) (v l)
 
 module _ {k : Kind} {s : List ℕ} {n : Numbers} {m key : List ℕ} {t : records.Table} {cs : List Check} {v : Lent → model.Decision}
     (h : Checked k s n m key t cs v) {j : Judged} (e : j ≡ judge cs Fails Passes) where
-  pub decided : (aaid metadata publicKey nonce hash : List ℕ)
-      → let l = lentOf aaid n metadata m key publicKey nonce hash in
+  pub decided : (aaid metadata publicKey nonce : List ℕ)
+      → let l = lentOf aaid n metadata key publicKey nonce in
       decide k s l (own m t) (among key (keyIds t)) (leb maxRecords (length t)) ≡ outcome (only k keep) (v l) j
-  decided a d p x y = h .by a d p x y ∙ judge-is cs (only k keep) _ e
+  decided a d p x = h .by a d p x ∙ judge-is cs (only k keep) _ e
 
   -- one fails
-  pub fails : {c : Span} {chosen : List ℕ} {i : ℕ} → j ≡ Fails i → Decides k s n m key t c chosen (decision (Status i) 0 Keep)
+  pub fails : {c : Params} {chosen : List ℕ} {i : ℕ} → j ≡ Fails i → Decides k s n m key t c chosen (decision (Status i) 0 Keep)
   unfolding answerOf only
   fails {i = i} o =
-      record { is = λ a d p x y. sym (decided a d p x y ∙ rw o); within = omega arith; sound = plain-sound (Status i) tt; can = tt }
+      record { is = λ a d p x. sym (decided a d p x ∙ rw o); within = omega arith; sound = plain-sound (Status i) tt; can = tt }
 
   -- all pass, and no record is named
-  pub passes : {c : Span} {chosen : List ℕ} {x : Shape} {w : Change} → j ≡ Passes
+  pub passes : {c : Params} {chosen : List ℕ} {x : Shape} {w : Change} → j ≡ Passes
       → ((l : Lent) → decisionOf k s l t [] (decision x 0 w) ≡ v l) → SoundShape k s t c x → Can s key m t w → Decides k s n m key t c chosen (decision x 0 w)
   passes {x = x} o f q r =
-      record { is = λ a d p y z. f _ ∙ sym (decided a d p y z ∙ rw o); within = omega arith; sound = plain-sound x q; can = r }
+      record { is = λ a d p y. f _ ∙ sym (decided a d p y ∙ rw o); within = omega arith; sound = plain-sound x q; can = r }
 
 -- ---- the fields of a command that breaks no rule
 
@@ -89,9 +89,10 @@ placed-short : (k : Kind) (f : Field) {s : List ℕ} {p : Span} → broken k s �
     → listed (fieldsOf k) (tagOf f) ≡ some (mandatory f) → Placed s f p → length (part s p) ≤ ruleOf f .most
 placed-short k f {s} b e p = rw (p .value) (fits-most f (fieldIn f s) (field-fits k s f b e))
 
-pub challenge-placed : (k : Kind) {s : List ℕ} {p : Span} → broken k s ≡ false
-    → listed (fieldsOf k) (tagOf challengeHash) ≡ some (mandatory challengeHash) → Placed s challengeHash p → Challenge s p
-challenge-placed k b e p = record { inside = p .inside; value = p .value; short = placed-short k challengeHash b e p }
+pub quoted-placed : (k : Kind) {s : List ℕ} {p : Params} → broken k s ≡ false
+    → listed (fieldsOf k) (tagOf challengeHash) ≡ some (mandatory challengeHash) → ParamsPlaced s p → Quoted s p
+quoted-placed k b e p =
+    record { challenge = p .challenge-hash; short = placed-short k challengeHash b e (p .challenge-hash); content = p .transaction-content }
 
 -- ---- GetInfo and open settings: one check
 
@@ -101,11 +102,11 @@ breaks k s = check 0x08 (broken k s) ∷ []
 module _ (s : List ℕ) (n : Numbers) (m key : List ℕ) (t : records.Table) where
   pub info-checked : Checked getInfo s n m key t (breaks getInfo s) (λ l. record { answer = response (infoResponse l); change = keep })
   unfolding decide decideGetInfo
-  info-checked = record { by = λ a d p x y. refl }
+  info-checked = record { by = λ a d p x. refl }
 
   pub settings-checked : Checked openSettings s n m key t (breaks openSettings s) (λ l. only openSettings keep 0x06)
   unfolding decide decideOpenSettings
-  settings-checked = record { by = λ a d p x y. refl }
+  settings-checked = record { by = λ a d p x. refl }
 
 module _ {k : Kind} {v : Lent → model.Decision}
     (h : (s : List ℕ) (n : Numbers) (m key : List ℕ) (t : records.Table) → Checked k s n m key t (breaks k s) v) {p : Params} where
@@ -115,7 +116,7 @@ module _ {k : Kind} {v : Lent → model.Decision}
 
   pub always-given : {x : Shape} → p .broken ≡ false
       → ((s : List ℕ) (l : Lent) (t : records.Table) → decisionOf k s l t [] (decision x 0 Keep) ≡ v l)
-      → ((s : List ℕ) (t : records.Table) (c : Span) → SoundShape k s t c x) → DecidesAlways k p (decision x 0 Keep)
+      → ((s : List ℕ) (t : records.Table) (c : Params) → SoundShape k s t c x) → DecidesAlways k p (decision x 0 Keep)
   unfolding judge
   always-given b f g =
       record { always = λ s n m key t chosen q. passes (h s n m key t) (rw (← q .broken-is, b)) refl (λ l. f s l t) (g s t _) tt }
@@ -125,13 +126,13 @@ module _ {k : Kind} {v : Lent → model.Decision}
 -- the checks do not read what is lent for the draft alone
 abbrev registerList : List ℕ → Numbers → List ℕ → List ℕ → records.Table → List Check
 registerList s n m key t =
-    registerChecks s (lentOf [] n [] m key [] [] []) (own m t) (among key (keyIds t)) (leb maxRecords (length t))
+    registerChecks s (lentOf [] n [] key [] []) (own m t) (among key (keyIds t)) (leb maxRecords (length t))
 
 module _ (s : List ℕ) (n : Numbers) (m key : List ℕ) (t : records.Table) where
   pub register-checked : Checked register s n m key t (registerList s n m key t)
       (λ l. record { answer = draft (registerDraft s l); change = add (l .keyId) (fieldIn username s) })
   unfolding decide decideRegister registerChecks
-  register-checked = record { by = λ a d p x y. refl }
+  register-checked = record { by = λ a d p x. refl }
 
   module _ {p : Params} (q : ParamsRead register s p) {j : Judged} (e : j ≡ judge (registerList s n m key t) Fails Passes)
       (o : j ≡ Passes) where
@@ -143,13 +144,13 @@ module _ (s : List ℕ) (n : Numbers) (m key : List ℕ) (t : records.Table) whe
 
     -- a record more with the command's name
     pub registered : {chosen : List ℕ} → length m ≡ 32 → length key ≡ 32
-        → Decides register s n m key t (p .«challenge_hash») chosen (decision Registration 0 (Add (p .username)))
+        → Decides register s n m key t p chosen (decision Registration 0 (Add (p .username)))
     unfolding answerOf
     registered g h =
         let b = register-passed .0 in
         let f = q .unless-broken b in
         passes register-checked e o (λ l. rw (f .username .value))
-        (refl, challenge-placed register b refl (f .challenge-hash))
+        (refl, quoted-placed register b refl f)
         (record {
           inside = f .username .inside;
           short = placed-short register username b refl (f .username);
@@ -164,10 +165,10 @@ module _ (s : List ℕ) (n : Numbers) (m key : List ℕ) (t : records.Table) whe
   pub deregister-checked : Checked deregister s n m key t (deregisterChecks s (own m t))
       (λ l. only deregister (removal (fieldIn keyIdOrNone s)) 0x00)
   unfolding decide decideDeregister
-  deregister-checked = record { by = λ a d p x y. refl }
+  deregister-checked = record { by = λ a d p x. refl }
 
   -- what is removed is told by the command's KeyID
-  pub deregistered : {p : Params} {c : Span} {chosen : List ℕ} {j : Judged} → ParamsRead deregister s p
+  pub deregistered : {p : Params} {c : Params} {chosen : List ℕ} {j : Judged} → ParamsRead deregister s p
       → j ≡ judge (deregisterChecks s (own m t)) Fails Passes → j ≡ Passes
       → Decides deregister s n m key t c chosen (decision (Status 0x00) 0 (Remove (p .«key_id»)))
   unfolding answerOf only

@@ -2,3 +2,4 @@
 pub mod JudgeLaws
 pub mod DecisionLaws
 pub mod SignLaws
+pub mod CallerLaws

@@ -26,14 +26,14 @@ use Rattle.stored_table.specs.Changes.{CanCount}
 use Rattle.stored_table.specs.Chosen.{isChosen, positions, ChosenAre, ChosenOf, recordsAt}
 use Rattle.stored_table.specs.declared.left.Change.the-variants.{Keep, SetCount}
 use Rattle.stored_table.proofs.LookupLaws.{chosen-is, chosen-records, chosen-of}
-use Rattle.replies.specs.Replies.{answerOf, Challenge}
+use Rattle.replies.specs.Replies.{answerOf, Quoted}
 use Rattle.replies.specs.declared.reply.Shape.the-variants.{Status, Names, Signed}
 use Rattle.replies.proofs.ReplyLaws.{sign-draft}
 use Rattle.commands.specs.Decisions.{decision, Decides, DecidesOne}
 use Rattle.commands.specs.declared.decision.Decision.{Decision}
 use Rattle.commands.specs.declared.decision.Judged.{Judged}
 use Rattle.commands.specs.declared.decision.Judged.the-variants.{Fails, Passes}
-use Rattle.commands.proofs.DecisionLaws.{outcome, judge-is, judge-passed, plain-sound, Checked, fails, decided, challenge-placed}
+use Rattle.commands.proofs.DecisionLaws.{outcome, judge-is, judge-passed, plain-sound, Checked, fails, decided, quoted-placed}
 
 -- ---- one record
 
@@ -68,9 +68,9 @@ module _ (content : Bool) (display count : ℕ) {j : Judged} (e : j ≡ judge (o
 
 -- the first k of these are the numbers of the records of the holder m that a command s chooses, whose checks pass
 pub record Chose (s : List ℕ) (n : Numbers) (m : List ℕ) (t : records.Table) (p : Params) (chosen : List ℕ) (k : ℕ) : Type 0 where
-  pub signs : (aaid metadata key publicKey nonce hash : List ℕ)
-      → let l = lentOf aaid n metadata m key publicKey nonce hash in decideSign s l (own m t) ≡ signChosen s l (recordsAt t (take k chosen))
-  pub challenge : Challenge s (p .«challenge_hash»)
+  pub signs : (aaid metadata key publicKey nonce : List ℕ)
+      → let l = lentOf aaid n metadata key publicKey nonce in decideSign s l (own m t) ≡ signChosen s l (recordsAt t (take k chosen))
+  pub quoted : Quoted s p
   pub within : k ≤ length chosen
   pub number : length (recordsAt t (take k chosen)) ≡ k
   pub there : ChosenOf t (take k chosen)
@@ -88,10 +88,10 @@ module _ {s : List ℕ} {p : Params} (n : Numbers) (q : ParamsRead sign s p) {j 
   sign-checked : (m key : List ℕ) (t : records.Table) → Checked sign s n m key t (userChecks (p .broken) (n .verdict))
       (λ l. signChosen s l (chosen (fieldsIn keyHandle s) (own m t)))
   unfolding decide decideSign
-  sign-checked m key t = record { by = λ a d k x y. rw (q .broken-is) refl }
+  sign-checked m key t = record { by = λ a d k x. rw (q .broken-is) refl }
 
   pub sign-fails : {m key chosen : List ℕ} {t : records.Table} {i : ℕ} → j ≡ Fails i
-      → Decides sign s n m key t (p .«challenge_hash») chosen (decision (Status i) 0 Keep)
+      → Decides sign s n m key t p chosen (decision (Status i) 0 Keep)
   sign-fails {m} {key} {t} o = fails (sign-checked m key t) e o
 
   module _ (o : j ≡ Passes) where
@@ -115,8 +115,8 @@ module _ {s : List ℕ} {p : Params} (n : Numbers) (q : ParamsRead sign s p) {j 
         let first-is : k ≡ 1 → take k cs ≡ getD cs 0 0 ∷ [] = λ e. first-of k cs e (h .within) in
         let one : k ≡ 1 → recordsAt t (take k cs) ≡ r ∷ [] = λ e. ap (recordsAt t) (first-is e) in
         record {
-          signs = λ a d key x y z. decided (sign-checked m key t) e a d x y z ∙ rw (o, are, handles-placed u .values);
-          challenge = challenge-placed sign sign-unbroken refl (sign-placed .challenge-hash);
+          signs = λ a d key x y. decided (sign-checked m key t) e a d x y ∙ rw (o, are, handles-placed u .values);
+          quoted = quoted-placed sign sign-unbroken refl sign-placed;
           within = h .within;
           number = simp (length-map, length-take-le k cs (h .within));
           there = of;
@@ -138,11 +138,11 @@ chosen-none s l [] h = refl
 chosen-none s l (r ∷ rs) h = absurd (omega arith)
 
 module _ {s : List ℕ} {n : Numbers} {m key : List ℕ} {t : records.Table} {p : Params} {cs : List ℕ} {k : ℕ} (w : Chose s n m t p cs k) where
-  pub none-chosen : k ≡ 0 → Decides sign s n m key t (p .«challenge_hash») cs (decision (Status 0x02) 0 Keep)
+  pub none-chosen : k ≡ 0 → Decides sign s n m key t p cs (decision (Status 0x02) 0 Keep)
   unfolding decide answerOf only
   none-chosen h =
       record {
-        is = λ a d b x y. sym (w .signs a d key b x y ∙ chosen-none s _ (recordsAt t (take k cs)) (w .number ∙ h));
+        is = λ a d b x. sym (w .signs a d key b x ∙ chosen-none s _ (recordsAt t (take k cs)) (w .number ∙ h));
         within = omega arith;
         sound = plain-sound (Status 0x02) tt;
         can = tt;
@@ -150,24 +150,24 @@ module _ {s : List ℕ} {n : Numbers} {m key : List ℕ} {t : records.Table} {p 
 
   pub one-chosen : {content : Bool} {count : ℕ} {d : Decision} → k ≡ 1 → hasContent s ≡ content
       → getD t (getD cs 0 0) noRecord .count ≡ count → DecidesOne content (n .display) count (getD cs 0 0) d
-      → Decides sign s n m key t (p .«challenge_hash») cs d
+      → Decides sign s n m key t p cs d
   unfolding decide signChosen
   one-chosen h f g d =
-      let v = d .one s (lentOf [] n [] m key [] [] []) m t _ cs f refl g (w .challenge) (w .mine h) in
+      let v = d .one s (lentOf [] n [] key [] []) m t _ cs f refl g (w .quoted) (w .mine h) in
       record {
         is =
-            λ a b q x y. d .one s (lentOf a n b m key q x y) m t _ cs f refl g (w .challenge) (w .mine h) .0
-            ∙ sym (w .signs a b key q x y ∙ rw (w .one h));
+            λ a b q x. d .one s (lentOf a n b key q x) m t _ cs f refl g (w .quoted) (w .mine h) .0
+            ∙ sym (w .signs a b key q x ∙ rw (w .one h));
         within = v .1;
         sound = v .2;
         can = v .3;
       }
 
-  pub several-chosen : (k ≡ 0 → ⊥) → (k ≡ 1 → ⊥) → Decides sign s n m key t (p .«challenge_hash») cs (decision Names k Keep)
+  pub several-chosen : (k ≡ 0 → ⊥) → (k ≡ 1 → ⊥) → Decides sign s n m key t p cs (decision Names k Keep)
   unfolding decide answerOf
   several-chosen g h =
       record {
-        is = λ a d b x y. sym (w .signs a d key b x y ∙ several-listed s _ (recordsAt t (take k cs)) (omega (arith, w .number, pos-of-ne-zero g)));
+        is = λ a d b x. sym (w .signs a d key b x ∙ several-listed s _ (recordsAt t (take k cs)) (omega (arith, w .number, pos-of-ne-zero g)));
         within = w .within;
         sound = record { named-there = w .there; own-shape = tt };
         can = tt;

@@ -11,7 +11,6 @@ use Rattle.model.specs.Records as records
 use Rattle.model.specs.Records.{own, keyIds, maxRecords}
 use Rattle.model.specs.Commands as model
 use Rattle.model.specs.Commands.{Lent, hasContent, signOne, decide}
-use Rattle.tlv.specs.declared.heads.Span.{Span}
 use Rattle.params.specs.Lent.{lentOf}
 use Rattle.params.specs.Parse.{ParamsRead}
 use Rattle.params.specs.declared.lent.Numbers.{Numbers}
@@ -19,7 +18,7 @@ use Rattle.params.specs.declared.parse.Params.{Params}
 use Rattle.stored_table.specs.Stored.{noRecord}
 use Rattle.stored_table.specs.Changes.{changeOf, CanCount, Can}
 use Rattle.stored_table.specs.declared.left.Change.{Change}
-use Rattle.replies.specs.Replies.{answerOf, Challenge, Sound}
+use Rattle.replies.specs.Replies.{answerOf, Quoted, Sound}
 use Rattle.replies.specs.declared.reply.Shape.{Shape}
 use Rattle.commands.specs.declared.decision.Decision.{Decision}
 
@@ -37,12 +36,12 @@ decisionOf k s l t chosen d =
     record { answer = answerOf k s l t (namedBy chosen d) (d .shape); change = changeOf s (l .keyId) t (d .change) }
 
 -- a command s of this kind, lent these numbers, the mixed token m and the KeyID key, decides so on a table, whatever else is lent; the reply can be
--- written and the change made; c is where its challenge hash stands, and the records named have the first numbers of these
-pub record Decides (k : Kind) (s : List ℕ) (n : Numbers) (m key : List ℕ) (t : records.Table) (c : Span) (chosen : List ℕ)
+-- written and the change made; c are its parameters, and the records named have the first numbers of these
+pub record Decides (k : Kind) (s : List ℕ) (n : Numbers) (m key : List ℕ) (t : records.Table) (c : Params) (chosen : List ℕ)
     (d : Decision) : Type 0 where
-  pub is : (aaid metadata publicKey nonce hash : List ℕ)
-      → decisionOf k s (lentOf aaid n metadata m key publicKey nonce hash) t chosen d
-      ≡ decide k s (lentOf aaid n metadata m key publicKey nonce hash) (own m t) (among key (keyIds t)) (leb maxRecords (length t))
+  pub is : (aaid metadata publicKey nonce : List ℕ)
+      → decisionOf k s (lentOf aaid n metadata key publicKey nonce) t chosen d
+      ≡ decide k s (lentOf aaid n metadata key publicKey nonce) (own m t) (among key (keyIds t)) (leb maxRecords (length t))
   pub within : d .named ≤ length chosen
   pub sound : Sound k s t c (namedBy chosen d) (d .shape)
   pub can : Can s key m t (d .change)
@@ -50,11 +49,11 @@ pub record Decides (k : Kind) (s : List ℕ) (n : Numbers) (m key : List ℕ) (t
 -- a command that looks at its parameters alone decides so on every table, whatever is lent
 pub record DecidesAlways (k : Kind) (p : Params) (d : Decision) : Type 0 where
   pub always : (s : List ℕ) (n : Numbers) (m key : List ℕ) (t : records.Table) (chosen : List ℕ) → ParamsRead k s p
-      → Decides k s n m key t (p .«challenge_hash») chosen d
+      → Decides k s n m key t p chosen d
 
 -- Sign's decision on one record, number i, with this count: of every command with content or without, lent this display result
 pub record DecidesOne (content : Bool) (display count i : ℕ) (d : Decision) : Type 0 where
-  pub one : (s : List ℕ) (l : Lent) (m : List ℕ) (t : records.Table) (c : Span) (chosen : List ℕ) → hasContent s ≡ content
-      → l .display ≡ display → getD t i noRecord .count ≡ count → Challenge s c → CanCount m t i
+  pub one : (s : List ℕ) (l : Lent) (m : List ℕ) (t : records.Table) (c : Params) (chosen : List ℕ) → hasContent s ≡ content
+      → l .display ≡ display → getD t i noRecord .count ≡ count → Quoted s c → CanCount m t i
       → (decisionOf sign s l t chosen d ≡ signOne s l (getD t i noRecord)) × (d .named ≤ length chosen)
       × Sound sign s t c (namedBy chosen d) (d .shape) × Can s (l .keyId) m t (d .change)

@@ -1,2 +1,3 @@
 -- What the commands decide, in the words of `model`.
 pub mod Decisions
+pub mod Callers

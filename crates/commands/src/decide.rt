@@ -33,7 +33,7 @@ pub fn decide(
     requires { ⌜ (kindIs kind ≡ model.register → (length (now mixed) ≡ 32) × (length (now «key_id») ≡ 32)) ⌝ }
     requires { ⌜ Indexed (now table) (now places) × (length (now chosen) ≡ 8) ⌝ }
     ensures { λ r. ⌜
-        Decides (kindIs kind) (now (command .entry)) numbers (now (mixed .entry)) (now («key_id» .entry)) (tableIn (now (table .entry))) (params .«challenge_hash»)
+        Decides (kindIs kind) (now (command .entry)) numbers (now (mixed .entry)) (now («key_id» .entry)) (tableIn (now (table .entry))) params
         (now (chosen .exit)) r ⌝ }
 {
     match kind {

@@ -59,7 +59,7 @@ pub fn deregister(
     requires { ⌜ ParamsRead deregister (now command) params ⌝ }
     requires { ⌜ Indexed (now table) (now places) ⌝ }
     ensures { λ r. ⌜
-        ((n : Numbers) (k chosen : List ℕ) → Decides deregister (now (command .entry)) n (now (mixed .entry)) k (tableIn (now (table .entry))) (params .«challenge_hash») chosen r) ⌝ }
+        ((n : Numbers) (k chosen : List ℕ) → Decides deregister (now (command .entry)) n (now (mixed .entry)) k (tableIn (now (table .entry))) params chosen r) ⌝ }
 {
     let judged = judge_deregister(command, params, mixed, table, places);
     match judged {

@@ -56,7 +56,7 @@ fn judge_register(
     requires { ⌜ ParamsRead register (now command) params ⌝ }
     requires { ⌜ Indexed (now table) (now places) ⌝ }
     ensures { λ r. ⌜
-        r ≡ judge (registerChecks (now (command .entry)) (lentOf [] numbers [] (now (mixed .entry)) (now («key_id» .entry)) [] [] [])
+        r ≡ judge (registerChecks (now (command .entry)) (lentOf [] numbers [] (now («key_id» .entry)) [] [])
         (own (now (mixed .entry)) (tableIn (now (table .entry))))
         (among (now («key_id» .entry)) (keyIds (tableIn (now (table .entry))))) (leb maxRecords (length (tableIn (now (table .entry)))))) Fails Passes ⌝ }
 {
@@ -96,7 +96,7 @@ pub fn register(
     requires { ⌜ Indexed (now table) (now places) ⌝ }
     ensures { λ r. ⌜
         ((chosen : List ℕ) → Decides register (now (command .entry)) numbers (now (mixed .entry)) (now («key_id» .entry)) (tableIn (now (table .entry)))
-        (params .«challenge_hash») chosen r) ⌝ }
+        params chosen r) ⌝ }
 {
     let judged = judge_register(command, params, numbers, mixed, key_id, table, places);
     match judged {

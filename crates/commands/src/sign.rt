@@ -93,7 +93,7 @@ pub fn sign(
     requires { ⌜ Indexed (now table) (now places) ⌝ }
     requires { ⌜ length (now chosen) ≡ 8 ⌝ }
     ensures { λ r. ⌜
-        ((k : List ℕ) → Decides sign (now (command .entry)) numbers (now (mixed .entry)) k (tableIn (now (table .entry))) (params .«challenge_hash»)
+        ((k : List ℕ) → Decides sign (now (command .entry)) numbers (now (mixed .entry)) k (tableIn (now (table .entry))) params
         (now (chosen .exit)) r) ⌝ }
 {
     let judged = judge_sign(params.broken, numbers.verdict);

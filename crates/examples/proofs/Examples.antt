@@ -9,7 +9,7 @@ use lib.ListN.{length}
 use Rattle.model.specs.Records.{Table}
 use Rattle.model.specs.Commands.{Result, refused, gave, Answer, response, draft, outcome}
 use Rattle.model.specs.Traces.{Form, handed, answered}
-use Rattle.model.proofs.Computing.{computing, each-form, holder, lent, annThenBo, standing, signCommand, registerCommand, info, krd, annThenBoListed}
+use Rattle.model.proofs.Computing.{computing, hashing, each-form, token, holder, lent, annThenBo, standing, signCommand, registerCommand, info, krd, annThenBoListed}
 
 record Example : Type 0 where
   command : List ℕ
@@ -32,6 +32,15 @@ Computed es = (f : Form) → map (run f) es ≡ map (λ e. e .expected) es
 abbrev infoInvalid : List ℕ
 infoInvalid = 0x01 ∷ 0x36 ∷ 0x06 ∷ 0x00 ∷ 0x08 ∷ 0x28 ∷ 0x02 ∷ 0x00 ∷ 0x08 ∷ 0x00 ∷ []
 
+-- the command of P8 and P9
+abbrev signShort : List ℕ
+signShort =
+    0x03 ∷ 0x34 ∷ 0x0F ∷ 0x00 ∷ 0x0D ∷ 0x28 ∷ 0x01 ∷ 0x00 ∷ 0x00 ∷ 0x0A ∷ 0x2E ∷ 0x01 ∷ 0x00 ∷ 0xAA ∷ 0x05 ∷ 0x28 ∷ 0x01 ∷ 0x00
+    ∷ 0xAA ∷ []
+
+abbrev signInvalid : Result Answer
+signInvalid = gave (response (0x03 ∷ 0x36 ∷ 0x06 ∷ 0x00 ∷ 0x08 ∷ 0x28 ∷ 0x02 ∷ 0x00 ∷ 0x08 ∷ 0x00 ∷ []))
+
 abbrev p1ToP9 : List Example
 p1ToP9 =
     -- P1, P2
@@ -46,20 +55,24 @@ p1ToP9 =
     -- P6
     ∷ example (0x06 ∷ 0x34 ∷ 0x05 ∷ 0x00 ∷ 0x0D ∷ 0x28 ∷ 0x01 ∷ 0x00 ∷ 0x00 ∷ []) []
     (gave (response (0x06 ∷ 0x36 ∷ 0x06 ∷ 0x00 ∷ 0x08 ∷ 0x28 ∷ 0x02 ∷ 0x00 ∷ 0x06 ∷ 0x00 ∷ [])))
-    -- P7
+    -- P7, P8, P9, which "become 0x08 cases" with request A4: their access token has one byte
     ∷ example
     (0x04 ∷ 0x34 ∷ 0x0E ∷ 0x00 ∷ 0x0D ∷ 0x28 ∷ 0x01 ∷ 0x00 ∷ 0x00 ∷ 0x09 ∷ 0x2E ∷ 0x00 ∷ 0x00 ∷ 0x05 ∷ 0x28 ∷ 0x01 ∷ 0x00 ∷ 0xAA ∷ []) []
+    (gave (response (0x04 ∷ 0x36 ∷ 0x06 ∷ 0x00 ∷ 0x08 ∷ 0x28 ∷ 0x02 ∷ 0x00 ∷ 0x08 ∷ 0x00 ∷ [])))
+    ∷ example signShort [] signInvalid
+    ∷ example signShort annThenBo signInvalid
+    -- what they said, with an access token of 32 bytes
+    ∷ example (0x04 ∷ 0x34 ∷ 0x2D ∷ 0x00 ∷ 0x0D ∷ 0x28 ∷ 0x01 ∷ 0x00 ∷ 0x00 ∷ 0x09 ∷ 0x2E ∷ 0x00 ∷ 0x00 ∷ 0x05 ∷ 0x28 ∷ 0x20 ∷ 0x00 ∷ token) []
     (gave (response (0x04 ∷ 0x36 ∷ 0x06 ∷ 0x00 ∷ 0x08 ∷ 0x28 ∷ 0x02 ∷ 0x00 ∷ 0x00 ∷ 0x00 ∷ [])))
-    -- P8, P9
     ∷ example signCommand [] (gave (response (0x03 ∷ 0x36 ∷ 0x06 ∷ 0x00 ∷ 0x08 ∷ 0x28 ∷ 0x02 ∷ 0x00 ∷ 0x02 ∷ 0x00 ∷ [])))
     ∷ example signCommand annThenBo (gave (response annThenBoListed))
     ∷ []
 
 pub examples : Computed p1ToP9
-unfolding computing
+unfolding computing hashing
 examples = each-form _ refl refl
 
--- the lengths that P1 and P9 say
+-- the lengths that P1 says, and P9 did
 pub p-sizes : (length info ≡ 94) × (length annThenBoListed ≡ 103)
 p-sizes = (refl, refl)
 
@@ -76,16 +89,16 @@ atLevel8 n s =
 
 abbrev edges : List Example
 edges =
-    example (registerCommand 0x99 128) [] (gave (draft krd))
-    ∷ example (registerCommand 0x9A 129) [] (notRegistered 0x08)
+    example (registerCommand 0xB8 128) [] (gave (draft krd))
+    ∷ example (registerCommand 0xB9 129) [] (notRegistered 0x08)
     ∷ example (atLevel8 4 (0xFF ∷ 0x1F ∷ 0x00 ∷ 0x00 ∷ [])) [] (gave (response info))
     ∷ example (atLevel8 4 (0xFF ∷ 0x0F ∷ 0x00 ∷ 0x00 ∷ [])) [] (gave (response info))
     ∷ example (atLevel8 8 (0xFF ∷ 0x1F ∷ 0x04 ∷ 0x00 ∷ 0xFF ∷ 0x1F ∷ 0x00 ∷ 0x00 ∷ [])) [] (gave (response infoInvalid))
     ∷ example (atLevel8 8 (0xFF ∷ 0x1F ∷ 0x04 ∷ 0x00 ∷ 0xFF ∷ 0x0F ∷ 0x00 ∷ 0x00 ∷ [])) [] (gave (response infoInvalid))
-    ∷ example (registerCommand 0x1B 2) (standing 0 holder 7) (gave (draft krd))
-    ∷ example (registerCommand 0x1B 2) (standing 0 holder 8) (notRegistered 0x0F)
+    ∷ example (registerCommand 0x3A 2) (standing 0 holder 7) (gave (draft krd))
+    ∷ example (registerCommand 0x3A 2) (standing 0 holder 8) (notRegistered 0x0F)
     ∷ []
 
 pub edge-examples : Computed edges
-unfolding computing
+unfolding computing hashing
 edge-examples = each-form _ refl refl

@@ -14,7 +14,7 @@ use Rattle.model.specs.Records.{Table}
 use Rattle.model.specs.Commands.{Lent, Result, refused, gave, Answer, response, draft, outcome}
 use Rattle.model.specs.Traces.{Form, itself, inStoredForm, handed, answered}
 use Rattle.model.proofs.Basics.{and-left, and-right, eqBytes-eq}
-use Rattle.model.proofs.Computing.{computing, each-form, lent, stands}
+use Rattle.model.proofs.Computing.{computing, hashing, each-form, token, lent, stands}
 use Rattle.model.proofs.Witness.{zeros, lending}
 
 -- a line of a table: what is computed, and what document 01 says
@@ -49,15 +49,25 @@ told (gave (response s)) = cond (eqb (length s) 10) (getD s 8 0) 300
 abbrev pub call : Form → ℕ → Option ℕ → Table → Lent → List ℕ → ℕ
 call f n m t l s = told (answered (outcome (record { command = s; lent = l; output = n; tableOutput = m }) (handed f t)))
 
--- one record of the caller stands
+-- the hash of the access token and of an AppID of one byte, 0
+abbrev withAppId : List ℕ
+withAppId =
+    0x3A ∷ 0x0C ∷ 0x20 ∷ 0x90 ∷ 0x7B ∷ 0x44 ∷ 0x9C ∷ 0x23 ∷ 0xB0 ∷ 0xA1 ∷ 0x6D ∷ 0x9A ∷ 0x29 ∷ 0x7E ∷ 0xA5 ∷ 0x2F
+    ∷ 0xAF ∷ 0x20 ∷ 0x6B ∷ 0xDE ∷ 0x0C ∷ 0x98 ∷ 0x21 ∷ 0x74 ∷ 0xB0 ∷ 0xE6 ∷ 0x4A ∷ 0x51 ∷ 0xC4 ∷ 0xF2 ∷ 0xAB ∷ 0x08 ∷ []
+
+-- one record of the caller stands, and one of the caller with the AppID `appId`, who is another holder
 abbrev standing : Table
-standing = stands 0x00 (0x41 ∷ []) ∷ []
+standing = stands 0x01 (0x41 ∷ []) ∷ record { keyId = replicate 32 0x00; mixed = withAppId; name = 0x42 ∷ []; count = 7 } ∷ []
 
 abbrev tells : List ℕ → ℕ
 tells s = call itself 4096 none standing lent s
 
+-- whether a command breaks no rule: by a user who is not verified, so that nothing is hashed
+abbrev unverified : Lent
+unverified = lending (lent .aaid) 0 0 0 (lent .metadata) 1 0 (lent .keyId) (lent .publicKey) (lent .nonce)
+
 abbrev accepted : List ℕ → Bool
-accepted s = not (eqb (tells s) 0x08)
+accepted s = not (eqb (call itself 4096 none standing unverified s) 0x08)
 
 -- ---- children that are as short as they may be, and commands: an outer tag and children
 
@@ -77,7 +87,7 @@ abbrev attestationType : Tlv
 attestationType = tlv 0x2807 (0x07 ∷ 0x3E ∷ [])
 
 abbrev accessToken : Tlv
-accessToken = tlv 0x2805 (zeros 1)
+accessToken = tlv 0x2805 token
 
 abbrev userVerifyToken : Tlv
 userVerifyToken = tlv 0x2803 []
@@ -192,7 +202,7 @@ howOften =
     ++ everywhere (tlv 0x3FFF []) never
 
 pub how-often : Holds howOften
-unfolding computing
+unfolding computing hashing
 how-often = holds howOften refl
 
 -- ---- how long a child's value may be: of these lengths those that are not 0x08
@@ -207,25 +217,25 @@ howLong =
     ∷ lengths register 0x2E0A (0 ∷ 1 ∷ 32 ∷ 33 ∷ []) gives (1 ∷ 32 ∷ [])
     ∷ lengths register 0x2806 (0 ∷ 1 ∷ 128 ∷ 129 ∷ []) gives (1 ∷ 128 ∷ [])
     ∷ lengths register 0x2807 (0 ∷ 1 ∷ 2 ∷ 3 ∷ []) gives (2 ∷ [])
-    ∷ lengths register 0x2805 (0 ∷ 1 ∷ 32 ∷ 33 ∷ []) gives (1 ∷ 32 ∷ [])
+    ∷ lengths register 0x2805 (0 ∷ 1 ∷ 31 ∷ 32 ∷ 33 ∷ []) gives (32 ∷ [])
     ∷ lengths sign 0x280D (0 ∷ 1 ∷ 2 ∷ []) gives (1 ∷ [])
     ∷ lengths sign 0x2804 (0 ∷ 1 ∷ 512 ∷ 513 ∷ []) gives (1 ∷ 512 ∷ [])
     ∷ lengths sign 0x2E0A (0 ∷ 1 ∷ 32 ∷ 33 ∷ []) gives (1 ∷ 32 ∷ [])
-    ∷ lengths sign 0x2805 (0 ∷ 1 ∷ 32 ∷ 33 ∷ []) gives (1 ∷ 32 ∷ [])
+    ∷ lengths sign 0x2805 (0 ∷ 1 ∷ 31 ∷ 32 ∷ 33 ∷ []) gives (32 ∷ [])
     ∷ lengths sign 0x2801 (0 ∷ 31 ∷ 32 ∷ 33 ∷ []) gives (32 ∷ [])
     ∷ lengths deregister 0x280D (0 ∷ 1 ∷ 2 ∷ []) gives (1 ∷ [])
     ∷ lengths deregister 0x2804 (0 ∷ 1 ∷ 512 ∷ 513 ∷ []) gives (1 ∷ 512 ∷ [])
     ∷ lengths deregister 0x2E09 (0 ∷ 1 ∷ 16 ∷ 31 ∷ 32 ∷ 33 ∷ []) gives (0 ∷ 32 ∷ [])
-    ∷ lengths deregister 0x2805 (0 ∷ 1 ∷ 32 ∷ 33 ∷ []) gives (1 ∷ 32 ∷ [])
+    ∷ lengths deregister 0x2805 (0 ∷ 1 ∷ 31 ∷ 32 ∷ 33 ∷ []) gives (32 ∷ [])
     ∷ lengths openSettings 0x280D (0 ∷ 1 ∷ 2 ∷ []) gives (1 ∷ [])
-    -- "the rest any": Sign has 8,192 bytes with 8,169 of content
+    -- "the rest any": Sign has 8,192 bytes with 8,138 of content
     ∷ lengths register 0x2803 (0 ∷ 1 ∷ 2000 ∷ []) gives (0 ∷ 1 ∷ 2000 ∷ [])
     ∷ lengths sign 0x2803 (0 ∷ 1 ∷ []) gives (0 ∷ 1 ∷ [])
-    ∷ lengths sign 0x2810 (0 ∷ 1 ∷ 8169 ∷ 8170 ∷ []) gives (0 ∷ 1 ∷ 8169 ∷ [])
+    ∷ lengths sign 0x2810 (0 ∷ 1 ∷ 8138 ∷ 8139 ∷ []) gives (0 ∷ 1 ∷ 8138 ∷ [])
     ∷ []
 
 pub how-long : Holds howLong
-unfolding computing
+unfolding computing hashing
 how-long = holds howLong refl
 
 -- ---- whole commands: with mandatory children, with all that are listed, in another order; the outer length; the outer tag
@@ -263,15 +273,15 @@ wholeCommands =
     gives (0x07 ∷ 200 ∷ 0x07 ∷ [])
     -- the outer length: one too small, right, one too large, its bytes exchanged
     ∷ stating getInfo [] (0 ∷ 1 ∷ []) gives (0 ∷ [])
-    ∷ stating register [] (25 ∷ 26 ∷ 27 ∷ 0x1A00 ∷ []) gives (26 ∷ [])
-    ∷ stating sign [] (14 ∷ 15 ∷ 16 ∷ 0x0F00 ∷ []) gives (15 ∷ [])
-    ∷ stating deregister [] (13 ∷ 14 ∷ 15 ∷ 0x0E00 ∷ []) gives (14 ∷ [])
+    ∷ stating register [] (56 ∷ 57 ∷ 58 ∷ 0x3900 ∷ []) gives (57 ∷ [])
+    ∷ stating sign [] (45 ∷ 46 ∷ 47 ∷ 0x2E00 ∷ []) gives (46 ∷ [])
+    ∷ stating deregister [] (44 ∷ 45 ∷ 46 ∷ 0x2D00 ∷ []) gives (45 ∷ [])
     ∷ stating openSettings [] (4 ∷ 5 ∷ 6 ∷ 0x0500 ∷ []) gives (5 ∷ [])
     -- a TLV of five bytes after the last child
     ∷ stating getInfo (bytes (skipped ∷ [])) (0 ∷ 4 ∷ 5 ∷ 6 ∷ []) gives (5 ∷ [])
-    ∷ stating register (bytes (skipped ∷ [])) (26 ∷ 30 ∷ 31 ∷ 32 ∷ []) gives (31 ∷ [])
-    ∷ stating sign (bytes (skipped ∷ [])) (15 ∷ 19 ∷ 20 ∷ 21 ∷ []) gives (20 ∷ [])
-    ∷ stating deregister (bytes (skipped ∷ [])) (14 ∷ 18 ∷ 19 ∷ 20 ∷ []) gives (19 ∷ [])
+    ∷ stating register (bytes (skipped ∷ [])) (57 ∷ 61 ∷ 62 ∷ 63 ∷ []) gives (62 ∷ [])
+    ∷ stating sign (bytes (skipped ∷ [])) (46 ∷ 50 ∷ 51 ∷ 52 ∷ []) gives (51 ∷ [])
+    ∷ stating deregister (bytes (skipped ∷ [])) (45 ∷ 49 ∷ 50 ∷ 51 ∷ []) gives (50 ∷ [])
     ∷ stating openSettings (bytes (skipped ∷ [])) (5 ∷ 9 ∷ 10 ∷ 11 ∷ []) gives (10 ∷ [])
     -- a byte after it
     ∷ stating openSettings (zeros 1) (5 ∷ 6 ∷ []) gives []
@@ -282,69 +292,64 @@ wholeCommands =
     ∷ []
 
 pub whole-commands : Holds wholeCommands
-unfolding computing
+unfolding computing hashing
 whole-commands = holds wholeCommands refl
 
 -- ---- lent results: these lengths and numbers, and what the five tell; Sign has content, so that the display is asked
 
-abbrev pub lentOf : (aaid version signatureAlgorithm keyAlgorithm metadata verdict display mixed keyId publicKey nonce contentHash : ℕ) → Lent
-lentOf a v s k m verdict display x i p n h =
-    lending (zeros a) v s k (zeros m) verdict display (replicate x 0xC0) (replicate i 0xD0) (zeros p) (zeros n) (zeros h)
+abbrev pub lentOf : (aaid version signatureAlgorithm keyAlgorithm metadata verdict display keyId publicKey nonce : ℕ) → Lent
+lentOf a v s k m verdict display i p n =
+    lending (zeros a) v s k (zeros m) verdict display (replicate i 0xD0) (zeros p) (zeros n)
 
-abbrev lends : (aaid version signatureAlgorithm keyAlgorithm metadata verdict display mixed keyId publicKey nonce contentHash : ℕ) → List ℕ
-lends a v s k m verdict display x i p n h =
-    map (λ c. call itself 4096 none standing (lentOf a v s k m verdict display x i p n h) (written c))
+abbrev lends : (aaid version signatureAlgorithm keyAlgorithm metadata verdict display keyId publicKey nonce : ℕ) → List ℕ
+lends a v s k m verdict display i p n =
+    map (λ c. call itself 4096 none standing (lentOf a v s k m verdict display i p n) (written c))
     (getInfo ∷ register ∷ with sign 1 (tlv 0x2810 (zeros 1)) ∷ deregister ∷ openSettings ∷ [])
 
 abbrev lentResults : List Line
 lentResults =
     -- all at their least; the greatest lengths
-    lends 9 0 0 0 15 0 0 32 32 1 8 32 gives (300 ∷ 200 ∷ 200 ∷ 0x00 ∷ 0x06 ∷ [])
-    ∷ lends 9 65535 65535 65535 15 0 0 32 32 512 32 32 gives (300 ∷ 200 ∷ 200 ∷ 0x00 ∷ 0x06 ∷ [])
+    lends 9 0 0 0 15 0 0 32 1 8 gives (300 ∷ 200 ∷ 200 ∷ 0x00 ∷ 0x06 ∷ [])
+    ∷ lends 9 65535 65535 65535 15 0 0 32 512 32 gives (300 ∷ 200 ∷ 200 ∷ 0x00 ∷ 0x06 ∷ [])
     -- AAID, version, both algorithms, metadata
-    ∷ lends 8 0 0 0 15 0 0 32 32 1 8 32 gives (104 ∷ 104 ∷ 104 ∷ 0x00 ∷ 0x06 ∷ [])
-    ∷ lends 10 0 0 0 15 0 0 32 32 1 8 32 gives (104 ∷ 104 ∷ 104 ∷ 0x00 ∷ 0x06 ∷ [])
-    ∷ lends 9 65536 0 0 15 0 0 32 32 1 8 32 gives (104 ∷ 104 ∷ 104 ∷ 0x00 ∷ 0x06 ∷ [])
-    ∷ lends 9 0 65536 0 15 0 0 32 32 1 8 32 gives (104 ∷ 104 ∷ 104 ∷ 0x00 ∷ 0x06 ∷ [])
-    ∷ lends 9 0 0 65536 15 0 0 32 32 1 8 32 gives (104 ∷ 104 ∷ 104 ∷ 0x00 ∷ 0x06 ∷ [])
-    ∷ lends 9 0 0 0 14 0 0 32 32 1 8 32 gives (104 ∷ 104 ∷ 104 ∷ 0x00 ∷ 0x06 ∷ [])
-    ∷ lends 9 0 0 0 16 0 0 32 32 1 8 32 gives (104 ∷ 104 ∷ 104 ∷ 0x00 ∷ 0x06 ∷ [])
+    ∷ lends 8 0 0 0 15 0 0 32 1 8 gives (104 ∷ 104 ∷ 104 ∷ 0x00 ∷ 0x06 ∷ [])
+    ∷ lends 10 0 0 0 15 0 0 32 1 8 gives (104 ∷ 104 ∷ 104 ∷ 0x00 ∷ 0x06 ∷ [])
+    ∷ lends 9 65536 0 0 15 0 0 32 1 8 gives (104 ∷ 104 ∷ 104 ∷ 0x00 ∷ 0x06 ∷ [])
+    ∷ lends 9 0 65536 0 15 0 0 32 1 8 gives (104 ∷ 104 ∷ 104 ∷ 0x00 ∷ 0x06 ∷ [])
+    ∷ lends 9 0 0 65536 15 0 0 32 1 8 gives (104 ∷ 104 ∷ 104 ∷ 0x00 ∷ 0x06 ∷ [])
+    ∷ lends 9 0 0 0 14 0 0 32 1 8 gives (104 ∷ 104 ∷ 104 ∷ 0x00 ∷ 0x06 ∷ [])
+    ∷ lends 9 0 0 0 16 0 0 32 1 8 gives (104 ∷ 104 ∷ 104 ∷ 0x00 ∷ 0x06 ∷ [])
     -- verdict
-    ∷ lends 9 0 0 0 15 1 0 32 32 1 8 32 gives (300 ∷ 0x02 ∷ 0x02 ∷ 0x00 ∷ 0x06 ∷ [])
-    ∷ lends 9 0 0 0 15 2 0 32 32 1 8 32 gives (300 ∷ 0x03 ∷ 0x03 ∷ 0x00 ∷ 0x06 ∷ [])
-    ∷ lends 9 0 0 0 15 3 0 32 32 1 8 32 gives (300 ∷ 0x05 ∷ 0x05 ∷ 0x00 ∷ 0x06 ∷ [])
-    ∷ lends 9 0 0 0 15 4 0 32 32 1 8 32 gives (300 ∷ 0x0E ∷ 0x0E ∷ 0x00 ∷ 0x06 ∷ [])
-    ∷ lends 9 0 0 0 15 5 0 32 32 1 8 32 gives (300 ∷ 0x10 ∷ 0x10 ∷ 0x00 ∷ 0x06 ∷ [])
-    ∷ lends 9 0 0 0 15 6 0 32 32 1 8 32 gives (300 ∷ 104 ∷ 104 ∷ 0x00 ∷ 0x06 ∷ [])
-    ∷ lends 9 0 0 0 15 256 0 32 32 1 8 32 gives (300 ∷ 104 ∷ 104 ∷ 0x00 ∷ 0x06 ∷ [])
-    ∷ lends 9 0 0 0 15 65536 0 32 32 1 8 32 gives (300 ∷ 104 ∷ 104 ∷ 0x00 ∷ 0x06 ∷ [])
+    ∷ lends 9 0 0 0 15 1 0 32 1 8 gives (300 ∷ 0x02 ∷ 0x02 ∷ 0x00 ∷ 0x06 ∷ [])
+    ∷ lends 9 0 0 0 15 2 0 32 1 8 gives (300 ∷ 0x03 ∷ 0x03 ∷ 0x00 ∷ 0x06 ∷ [])
+    ∷ lends 9 0 0 0 15 3 0 32 1 8 gives (300 ∷ 0x05 ∷ 0x05 ∷ 0x00 ∷ 0x06 ∷ [])
+    ∷ lends 9 0 0 0 15 4 0 32 1 8 gives (300 ∷ 0x0E ∷ 0x0E ∷ 0x00 ∷ 0x06 ∷ [])
+    ∷ lends 9 0 0 0 15 5 0 32 1 8 gives (300 ∷ 0x10 ∷ 0x10 ∷ 0x00 ∷ 0x06 ∷ [])
+    ∷ lends 9 0 0 0 15 6 0 32 1 8 gives (300 ∷ 104 ∷ 104 ∷ 0x00 ∷ 0x06 ∷ [])
+    ∷ lends 9 0 0 0 15 256 0 32 1 8 gives (300 ∷ 104 ∷ 104 ∷ 0x00 ∷ 0x06 ∷ [])
+    ∷ lends 9 0 0 0 15 65536 0 32 1 8 gives (300 ∷ 104 ∷ 104 ∷ 0x00 ∷ 0x06 ∷ [])
     -- display result
-    ∷ lends 9 0 0 0 15 0 1 32 32 1 8 32 gives (300 ∷ 200 ∷ 0x05 ∷ 0x00 ∷ 0x06 ∷ [])
-    ∷ lends 9 0 0 0 15 0 2 32 32 1 8 32 gives (300 ∷ 200 ∷ 0x04 ∷ 0x00 ∷ 0x06 ∷ [])
-    ∷ lends 9 0 0 0 15 0 3 32 32 1 8 32 gives (300 ∷ 200 ∷ 0x0E ∷ 0x00 ∷ 0x06 ∷ [])
-    ∷ lends 9 0 0 0 15 0 4 32 32 1 8 32 gives (300 ∷ 200 ∷ 104 ∷ 0x00 ∷ 0x06 ∷ [])
-    ∷ lends 9 0 0 0 15 0 256 32 32 1 8 32 gives (300 ∷ 200 ∷ 104 ∷ 0x00 ∷ 0x06 ∷ [])
-    ∷ lends 9 0 0 0 15 0 65536 32 32 1 8 32 gives (300 ∷ 200 ∷ 104 ∷ 0x00 ∷ 0x06 ∷ [])
-    -- mixed token, KeyID
-    ∷ lends 9 0 0 0 15 0 0 31 32 1 8 32 gives (300 ∷ 104 ∷ 104 ∷ 104 ∷ 0x06 ∷ [])
-    ∷ lends 9 0 0 0 15 0 0 33 32 1 8 32 gives (300 ∷ 104 ∷ 104 ∷ 104 ∷ 0x06 ∷ [])
-    ∷ lends 9 0 0 0 15 0 0 32 0 1 8 32 gives (300 ∷ 104 ∷ 200 ∷ 0x00 ∷ 0x06 ∷ [])
-    ∷ lends 9 0 0 0 15 0 0 32 31 1 8 32 gives (300 ∷ 104 ∷ 200 ∷ 0x00 ∷ 0x06 ∷ [])
-    ∷ lends 9 0 0 0 15 0 0 32 33 1 8 32 gives (300 ∷ 104 ∷ 200 ∷ 0x00 ∷ 0x06 ∷ [])
-    -- public key, nonce, transaction hash
-    ∷ lends 9 0 0 0 15 0 0 32 32 0 8 32 gives (300 ∷ 104 ∷ 200 ∷ 0x00 ∷ 0x06 ∷ [])
-    ∷ lends 9 0 0 0 15 0 0 32 32 513 8 32 gives (300 ∷ 104 ∷ 200 ∷ 0x00 ∷ 0x06 ∷ [])
-    ∷ lends 9 0 0 0 15 0 0 32 32 1 7 32 gives (300 ∷ 200 ∷ 104 ∷ 0x00 ∷ 0x06 ∷ [])
-    ∷ lends 9 0 0 0 15 0 0 32 32 1 33 32 gives (300 ∷ 200 ∷ 104 ∷ 0x00 ∷ 0x06 ∷ [])
-    ∷ lends 9 0 0 0 15 0 0 32 32 1 8 0 gives (300 ∷ 200 ∷ 104 ∷ 0x00 ∷ 0x06 ∷ [])
-    ∷ lends 9 0 0 0 15 0 0 32 32 1 8 31 gives (300 ∷ 200 ∷ 104 ∷ 0x00 ∷ 0x06 ∷ [])
-    ∷ lends 9 0 0 0 15 0 0 32 32 1 8 33 gives (300 ∷ 200 ∷ 104 ∷ 0x00 ∷ 0x06 ∷ [])
-    -- all wrong
-    ∷ lends 0 65536 65536 65536 0 6 4 0 0 0 0 0 gives (104 ∷ 104 ∷ 104 ∷ 104 ∷ 0x06 ∷ [])
+    ∷ lends 9 0 0 0 15 0 1 32 1 8 gives (300 ∷ 200 ∷ 0x05 ∷ 0x00 ∷ 0x06 ∷ [])
+    ∷ lends 9 0 0 0 15 0 2 32 1 8 gives (300 ∷ 200 ∷ 0x04 ∷ 0x00 ∷ 0x06 ∷ [])
+    ∷ lends 9 0 0 0 15 0 3 32 1 8 gives (300 ∷ 200 ∷ 0x0E ∷ 0x00 ∷ 0x06 ∷ [])
+    ∷ lends 9 0 0 0 15 0 4 32 1 8 gives (300 ∷ 200 ∷ 104 ∷ 0x00 ∷ 0x06 ∷ [])
+    ∷ lends 9 0 0 0 15 0 256 32 1 8 gives (300 ∷ 200 ∷ 104 ∷ 0x00 ∷ 0x06 ∷ [])
+    ∷ lends 9 0 0 0 15 0 65536 32 1 8 gives (300 ∷ 200 ∷ 104 ∷ 0x00 ∷ 0x06 ∷ [])
+    -- KeyID
+    ∷ lends 9 0 0 0 15 0 0 0 1 8 gives (300 ∷ 104 ∷ 200 ∷ 0x00 ∷ 0x06 ∷ [])
+    ∷ lends 9 0 0 0 15 0 0 31 1 8 gives (300 ∷ 104 ∷ 200 ∷ 0x00 ∷ 0x06 ∷ [])
+    ∷ lends 9 0 0 0 15 0 0 33 1 8 gives (300 ∷ 104 ∷ 200 ∷ 0x00 ∷ 0x06 ∷ [])
+    -- public key, nonce
+    ∷ lends 9 0 0 0 15 0 0 32 0 8 gives (300 ∷ 104 ∷ 200 ∷ 0x00 ∷ 0x06 ∷ [])
+    ∷ lends 9 0 0 0 15 0 0 32 513 8 gives (300 ∷ 104 ∷ 200 ∷ 0x00 ∷ 0x06 ∷ [])
+    ∷ lends 9 0 0 0 15 0 0 32 1 7 gives (300 ∷ 200 ∷ 104 ∷ 0x00 ∷ 0x06 ∷ [])
+    ∷ lends 9 0 0 0 15 0 0 32 1 33 gives (300 ∷ 200 ∷ 104 ∷ 0x00 ∷ 0x06 ∷ [])
+    -- all wrong: Deregister and Open settings use nothing that is lent
+    ∷ lends 0 65536 65536 65536 0 6 4 0 0 0 gives (104 ∷ 104 ∷ 104 ∷ 0x00 ∷ 0x06 ∷ [])
     ∷ []
 
 pub lent-results : Holds lentResults
-unfolding computing
+unfolding computing hashing
 lent-results = holds lentResults refl
 
 -- ---- outputs, and the order of refusals: what GetInfo, a command that is none of the five and a GetInfo that breaks a rule tell, with
@@ -355,7 +360,7 @@ unnamed = stands 0x00 [] ∷ []
 
 abbrev turn : Form → ℕ → Option ℕ → Table → ℕ → List ℕ
 turn f n m t a =
-    map (λ c. call f n m t (lentOf a 0 0 0 15 0 0 32 32 1 8 32) (written c))
+    map (λ c. call f n m t (lentOf a 0 0 0 15 0 0 32 1 8) (written c))
     (getInfo ∷ command 0x3405 [] ∷ adding getInfo (index ∷ []) ∷ [])
 
 abbrev turns : Form → List Line
@@ -375,5 +380,5 @@ turns f =
     ∷ []
 
 pub refusals-in-turn : (f : Form) → Holds (turns f)
-unfolding computing
+unfolding computing hashing
 refusals-in-turn = each-form _ (holds (turns itself) refl) (holds (turns inStoredForm) refl)

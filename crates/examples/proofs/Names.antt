@@ -82,7 +82,7 @@ abbrev made : List ℕ → List ℕ
 made name =
     let asked = written (with register 1 (tlv 0x2806 name)) in
     call itself 4096 none [] lent asked
-    ∷ call itself 4096 none [] (lentOf 9 0 0 0 15 2 0 32 32 1 8 32) asked
+    ∷ call itself 4096 none [] (lentOf 9 0 0 0 15 2 0 32 1 8) asked
     ∷ call itself 4096 none (stands 0xAA name ∷ []) lent (written getInfo)
     ∷ call inStoredForm 4096 (some 6912) (stands 0xAA name ∷ []) lent (written getInfo)
     ∷ read (readResponse (listing name))

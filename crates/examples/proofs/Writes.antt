@@ -24,11 +24,15 @@ abbrev bytesOr : Result (List ℕ) → List ℕ
 bytesOr (refused n) = n ∷ []
 bytesOr (gave s) = s
 
--- ---- each command, into an output that is just long enough: P1, P6, P7 and P8 of document 01, then commands with all that they list, children in the
+-- ---- each command, into an output that is just long enough: P1, P6 and, with an access token of 32 bytes, P7 and P8 of document 01, then commands with all that they list, children in the
 -- order of 001's tables. Content that is given and empty is written, one that is not given is not; a handle that is given twice is written twice
 
 abbrev aa : List ℕ
 aa = 0xAA ∷ []
+
+-- an access token in a command
+abbrev token : List ℕ
+token = 0x05 ∷ 0x28 ∷ 0x20 ∷ 0x00 ∷ replicate 32 0xAA
 
 abbrev key : ℕ → List ℕ
 key k = replicate 32 k
@@ -37,26 +41,25 @@ abbrev handle : ℕ → List ℕ
 handle k = 0x01 ∷ 0x28 ∷ 0x20 ∷ 0x00 ∷ key k
 
 abbrev plainSign : List ℕ
-plainSign = 0x0D ∷ 0x28 ∷ 0x01 ∷ 0x00 ∷ 0x00 ∷ 0x0A ∷ 0x2E ∷ 0x01 ∷ 0x00 ∷ 0xAA ∷ 0x05 ∷ 0x28 ∷ 0x01 ∷ 0x00 ∷ 0xAA ∷ []
+plainSign = 0x0D ∷ 0x28 ∷ 0x01 ∷ 0x00 ∷ 0x00 ∷ 0x0A ∷ 0x2E ∷ 0x01 ∷ 0x00 ∷ 0xAA ∷ token
 
 abbrev commandLines : List Line
 commandLines =
     bytesOr (writeCommand toGetInfo 4) gives (0x01 ∷ 0x34 ∷ 0x00 ∷ 0x00 ∷ [])
     ∷ bytesOr (writeCommand toOpenSettings 9) gives (0x06 ∷ 0x34 ∷ 0x05 ∷ 0x00 ∷ 0x0D ∷ 0x28 ∷ 0x01 ∷ 0x00 ∷ 0x00 ∷ [])
-    ∷ bytesOr (writeCommand (toDeregister 0 [] [] aa) 18) gives
-    (0x04 ∷ 0x34 ∷ 0x0E ∷ 0x00 ∷ 0x0D ∷ 0x28 ∷ 0x01 ∷ 0x00 ∷ 0x00 ∷ 0x09 ∷ 0x2E ∷ 0x00 ∷ 0x00 ∷ 0x05 ∷ 0x28 ∷ 0x01 ∷ 0x00 ∷ 0xAA ∷ [])
-    ∷ bytesOr (writeCommand (toSign 0 [] aa 0 [] aa 0 [] [] []) 19) gives (0x03 ∷ 0x34 ∷ 0x0F ∷ 0x00 ∷ plainSign)
-    ∷ bytesOr (writeCommand (toRegister 1 (0x61 ∷ []) aa (0x41 ∷ 0x6E ∷ []) 0x3E07 aa 1 (0x56 ∷ [])) 41) gives
-    (0x02 ∷ 0x34 ∷ 0x25 ∷ 0x00 ∷ 0x0D ∷ 0x28 ∷ 0x01 ∷ 0x00 ∷ 0x00 ∷ 0x04 ∷ 0x28 ∷ 0x01 ∷ 0x00 ∷ 0x61 ∷ 0x0A ∷ 0x2E ∷ 0x01 ∷ 0x00 ∷ 0xAA
-    ∷ 0x06 ∷ 0x28 ∷ 0x02 ∷ 0x00 ∷ 0x41 ∷ 0x6E ∷ 0x07 ∷ 0x28 ∷ 0x02 ∷ 0x00 ∷ 0x07 ∷ 0x3E ∷ 0x05 ∷ 0x28 ∷ 0x01 ∷ 0x00 ∷ 0xAA
-    ∷ 0x03 ∷ 0x28 ∷ 0x01 ∷ 0x00 ∷ 0x56 ∷ [])
-    ∷ bytesOr (writeCommand (toSign 1 (0x61 ∷ []) aa 1 [] aa 1 (0x56 ∷ []) (key 0xBB ++ (key 0xB0 ++ key 0xBB)) (32 ∷ 32 ∷ 32 ∷ [])) 141) gives
-    (0x03 ∷ 0x34 ∷ 0x89 ∷ 0x00 ∷ 0x0D ∷ 0x28 ∷ 0x01 ∷ 0x00 ∷ 0x00 ∷ 0x04 ∷ 0x28 ∷ 0x01 ∷ 0x00 ∷ 0x61 ∷ 0x0A ∷ 0x2E ∷ 0x01 ∷ 0x00 ∷ 0xAA
-    ∷ 0x10 ∷ 0x28 ∷ 0x00 ∷ 0x00 ∷ 0x05 ∷ 0x28 ∷ 0x01 ∷ 0x00 ∷ 0xAA ∷ 0x03 ∷ 0x28 ∷ 0x01 ∷ 0x00 ∷ 0x56
-    ∷ handle 0xBB ++ (handle 0xB0 ++ handle 0xBB))
-    ∷ bytesOr (writeCommand (toDeregister 1 (0x61 ∷ []) (key 0xBB) aa) 55) gives
-    (0x04 ∷ 0x34 ∷ 0x33 ∷ 0x00 ∷ 0x0D ∷ 0x28 ∷ 0x01 ∷ 0x00 ∷ 0x00 ∷ 0x04 ∷ 0x28 ∷ 0x01 ∷ 0x00 ∷ 0x61 ∷ 0x09 ∷ 0x2E ∷ 0x20 ∷ 0x00
-    ∷ key 0xBB ++ (0x05 ∷ 0x28 ∷ 0x01 ∷ 0x00 ∷ 0xAA ∷ []))
+    ∷ bytesOr (writeCommand (toDeregister 0 [] [] (key 0xAA)) 49) gives
+    (0x04 ∷ 0x34 ∷ 0x2D ∷ 0x00 ∷ 0x0D ∷ 0x28 ∷ 0x01 ∷ 0x00 ∷ 0x00 ∷ 0x09 ∷ 0x2E ∷ 0x00 ∷ 0x00 ∷ token)
+    ∷ bytesOr (writeCommand (toSign 0 [] aa 0 [] (key 0xAA) 0 [] [] []) 50) gives (0x03 ∷ 0x34 ∷ 0x2E ∷ 0x00 ∷ plainSign)
+    ∷ bytesOr (writeCommand (toRegister 1 (0x61 ∷ []) aa (0x41 ∷ 0x6E ∷ []) 0x3E07 (key 0xAA) 1 (0x56 ∷ [])) 72) gives
+    (0x02 ∷ 0x34 ∷ 0x44 ∷ 0x00 ∷ 0x0D ∷ 0x28 ∷ 0x01 ∷ 0x00 ∷ 0x00 ∷ 0x04 ∷ 0x28 ∷ 0x01 ∷ 0x00 ∷ 0x61 ∷ 0x0A ∷ 0x2E ∷ 0x01 ∷ 0x00 ∷ 0xAA
+    ∷ 0x06 ∷ 0x28 ∷ 0x02 ∷ 0x00 ∷ 0x41 ∷ 0x6E ∷ 0x07 ∷ 0x28 ∷ 0x02 ∷ 0x00 ∷ 0x07 ∷ 0x3E
+    ∷ token ++ (0x03 ∷ 0x28 ∷ 0x01 ∷ 0x00 ∷ 0x56 ∷ []))
+    ∷ bytesOr (writeCommand (toSign 1 (0x61 ∷ []) aa 1 [] (key 0xAA) 1 (0x56 ∷ []) (key 0xBB ++ (key 0xB0 ++ key 0xBB)) (32 ∷ 32 ∷ 32 ∷ [])) 172) gives
+    (0x03 ∷ 0x34 ∷ 0xA8 ∷ 0x00 ∷ 0x0D ∷ 0x28 ∷ 0x01 ∷ 0x00 ∷ 0x00 ∷ 0x04 ∷ 0x28 ∷ 0x01 ∷ 0x00 ∷ 0x61 ∷ 0x0A ∷ 0x2E ∷ 0x01 ∷ 0x00 ∷ 0xAA
+    ∷ 0x10 ∷ 0x28 ∷ 0x00 ∷ 0x00 ∷ token ++ (0x03 ∷ 0x28 ∷ 0x01 ∷ 0x00 ∷ 0x56 ∷ handle 0xBB ++ (handle 0xB0 ++ handle 0xBB)))
+    ∷ bytesOr (writeCommand (toDeregister 1 (0x61 ∷ []) (key 0xBB) (key 0xAA)) 86) gives
+    (0x04 ∷ 0x34 ∷ 0x52 ∷ 0x00 ∷ 0x0D ∷ 0x28 ∷ 0x01 ∷ 0x00 ∷ 0x00 ∷ 0x04 ∷ 0x28 ∷ 0x01 ∷ 0x00 ∷ 0x61 ∷ 0x09 ∷ 0x2E ∷ 0x20 ∷ 0x00
+    ∷ key 0xBB ++ token)
     ∷ []
 
 pub each-command : Holds commandLines
@@ -74,31 +77,31 @@ says ws n = map (λ w. read (writeCommand w n)) ws
 
 -- a Register, a Sign and a Deregister with the least that they must have, but for these
 abbrev forApp : ℕ → List ℕ → Wanted
-forApp mark v = toRegister mark v byte byte 0 byte 0 []
+forApp mark v = toRegister mark v byte byte 0 (zeros 32) 0 []
 
 abbrev forChallenge : List ℕ → Wanted
-forChallenge v = toRegister 0 [] v byte 0 byte 0 []
+forChallenge v = toRegister 0 [] v byte 0 (zeros 32) 0 []
 
 abbrev forName : List ℕ → Wanted
-forName v = toRegister 0 [] byte v 0 byte 0 []
+forName v = toRegister 0 [] byte v 0 (zeros 32) 0 []
 
 abbrev forType : ℕ → Wanted
-forType n = toRegister 0 [] byte byte n byte 0 []
+forType n = toRegister 0 [] byte byte n (zeros 32) 0 []
 
 abbrev forToken : List ℕ → Wanted
 forToken v = toRegister 0 [] byte byte 0 v 0 []
 
 abbrev forVerify : ℕ → List ℕ → Wanted
-forVerify mark v = toRegister 0 [] byte byte 0 byte mark v
+forVerify mark v = toRegister 0 [] byte byte 0 (zeros 32) mark v
 
 abbrev forContent : ℕ → List ℕ → Wanted
-forContent mark v = toSign 0 [] byte mark v byte 0 [] [] []
+forContent mark v = toSign 0 [] byte mark v (zeros 32) 0 [] [] []
 
 abbrev forKey : List ℕ → Wanted
-forKey v = toDeregister 0 [] v byte
+forKey v = toDeregister 0 [] v (zeros 32)
 
 abbrev forHandles : List ℕ → List ℕ → Wanted
-forHandles hs ns = toSign 0 [] byte 0 [] byte 0 [] hs ns
+forHandles hs ns = toSign 0 [] byte 0 [] (zeros 32) 0 [] hs ns
 
 abbrev ruleLines : List Line
 ruleLines =
@@ -108,7 +111,7 @@ ruleLines =
     ∷ says (forName [] ∷ forName byte ∷ forName (zeros 128) ∷ forName (zeros 129) ∷ forName (0x80 ∷ []) ∷ forName (0xC3 ∷ 0xA9 ∷ []) ∷ []) 8192
     gives (6 ∷ 0 ∷ 0 ∷ 6 ∷ 6 ∷ 0 ∷ [])
     ∷ says (forType 0 ∷ forType 65535 ∷ forType 65536 ∷ []) 8192 gives (0 ∷ 0 ∷ 6 ∷ [])
-    ∷ says (forToken [] ∷ forToken byte ∷ forToken (zeros 32) ∷ forToken (zeros 33) ∷ []) 8192 gives (6 ∷ 0 ∷ 0 ∷ 6 ∷ [])
+    ∷ says (forToken [] ∷ forToken byte ∷ forToken (zeros 31) ∷ forToken (zeros 32) ∷ forToken (zeros 33) ∷ []) 8192 gives (6 ∷ 6 ∷ 6 ∷ 0 ∷ 6 ∷ [])
     ∷ says (forVerify 0 [] ∷ forVerify 1 [] ∷ forVerify 2 [] ∷ forVerify 256 [] ∷ []) 8192 gives (0 ∷ 0 ∷ 6 ∷ 6 ∷ [])
     ∷ says (forContent 0 [] ∷ forContent 1 [] ∷ forContent 2 [] ∷ []) 8192 gives (0 ∷ 0 ∷ 6 ∷ [])
     ∷ says (forKey [] ∷ forKey byte ∷ forKey (zeros 31) ∷ forKey (zeros 32) ∷ forKey (zeros 33) ∷ []) 8192 gives (0 ∷ 6 ∷ 6 ∷ 0 ∷ 6 ∷ [])
@@ -121,26 +124,26 @@ pub each-rule : Holds ruleLines
 unfolding computing
 each-rule = holds ruleLines refl
 
--- 6 comes before 1: outputs that are just long enough, one byte short, and empty, for a token of one byte and for one of none
+-- 6 comes before 1: outputs that are just long enough, one byte short, and empty, for a token of 32 bytes and for one of 31
 abbrev orderLines : List Line
 orderLines =
-    says (forToken byte ∷ forToken [] ∷ []) 30 gives (0 ∷ 6 ∷ [])
-    ∷ says (forToken byte ∷ forToken [] ∷ []) 29 gives (1 ∷ 6 ∷ [])
-    ∷ says (toGetInfo ∷ toOpenSettings ∷ forToken byte ∷ forToken [] ∷ []) 0 gives (1 ∷ 1 ∷ 1 ∷ 6 ∷ [])
+    says (forToken (zeros 32) ∷ forToken (zeros 31) ∷ []) 61 gives (0 ∷ 6 ∷ [])
+    ∷ says (forToken (zeros 32) ∷ forToken (zeros 31) ∷ []) 60 gives (1 ∷ 6 ∷ [])
+    ∷ says (toGetInfo ∷ toOpenSettings ∷ forToken (zeros 32) ∷ forToken (zeros 31) ∷ []) 0 gives (1 ∷ 1 ∷ 1 ∷ 6 ∷ [])
     ∷ []
 
 pub six-before-one : Holds orderLines
 unfolding computing
 six-before-one = holds orderLines refl
 
--- ---- the form of a Sign whose children come in another order, with a tag that is skipped: P8
+-- ---- the form of a Sign whose children come in another order, with a tag that is skipped: that of P8
 
 abbrev formLines : List Line
 formLines =
     formOf sign
-    (0x03 ∷ 0x34 ∷ 0x14 ∷ 0x00 ∷ 0x05 ∷ 0x28 ∷ 0x01 ∷ 0x00 ∷ 0xAA ∷ 0xFF ∷ 0x0F ∷ 0x01 ∷ 0x00 ∷ 0x78 ∷ 0x0D ∷ 0x28 ∷ 0x01 ∷ 0x00 ∷ 0x00
-    ∷ 0x0A ∷ 0x2E ∷ 0x01 ∷ 0x00 ∷ 0xAA ∷ [])
-    gives (0x03 ∷ 0x34 ∷ 0x0F ∷ 0x00 ∷ plainSign)
+    (0x03 ∷ 0x34 ∷ 0x33 ∷ 0x00 ∷ token
+    ++ (0xFF ∷ 0x0F ∷ 0x01 ∷ 0x00 ∷ 0x78 ∷ 0x0D ∷ 0x28 ∷ 0x01 ∷ 0x00 ∷ 0x00 ∷ 0x0A ∷ 0x2E ∷ 0x01 ∷ 0x00 ∷ 0xAA ∷ []))
+    gives (0x03 ∷ 0x34 ∷ 0x2E ∷ 0x00 ∷ plainSign)
     ∷ []
 
 pub form-of : Holds formLines
@@ -153,8 +156,7 @@ form-of = holds formLines refl
 
 abbrev emptyApp : List ℕ
 emptyApp =
-    0x03 ∷ 0x34 ∷ 0x13 ∷ 0x00 ∷ 0x0D ∷ 0x28 ∷ 0x01 ∷ 0x00 ∷ 0x00 ∷ 0x04 ∷ 0x28 ∷ 0x00 ∷ 0x00 ∷ 0x0A ∷ 0x2E ∷ 0x01 ∷ 0x00 ∷ 0xAA
-    ∷ 0x05 ∷ 0x28 ∷ 0x01 ∷ 0x00 ∷ 0xAA ∷ []
+    0x03 ∷ 0x34 ∷ 0x32 ∷ 0x00 ∷ 0x0D ∷ 0x28 ∷ 0x01 ∷ 0x00 ∷ 0x00 ∷ 0x04 ∷ 0x28 ∷ 0x00 ∷ 0x00 ∷ 0x0A ∷ 0x2E ∷ 0x01 ∷ 0x00 ∷ 0xAA ∷ token
 
 pub unbroken-needed : (formOf sign emptyApp ≡ emptyApp) × (broken sign emptyApp ≡ true)
 unfolding computing
@@ -169,8 +171,8 @@ kind-needed = (refl, refl, refl)
 
 abbrev wideType : List ℕ
 wideType =
-    0x02 ∷ 0x34 ∷ 0x1A ∷ 0x00 ∷ 0x0D ∷ 0x28 ∷ 0x01 ∷ 0x00 ∷ 0x00 ∷ 0x0A ∷ 0x2E ∷ 0x01 ∷ 0x00 ∷ 0xAA ∷ 0x06 ∷ 0x28 ∷ 0x01 ∷ 0x00 ∷ 0x41
-    ∷ 0x07 ∷ 0x28 ∷ 0x02 ∷ 0x00 ∷ 300 ∷ 0x00 ∷ 0x05 ∷ 0x28 ∷ 0x01 ∷ 0x00 ∷ 0xAA ∷ []
+    0x02 ∷ 0x34 ∷ 0x39 ∷ 0x00 ∷ 0x0D ∷ 0x28 ∷ 0x01 ∷ 0x00 ∷ 0x00 ∷ 0x0A ∷ 0x2E ∷ 0x01 ∷ 0x00 ∷ 0xAA ∷ 0x06 ∷ 0x28 ∷ 0x01 ∷ 0x00 ∷ 0x41
+    ∷ 0x07 ∷ 0x28 ∷ 0x02 ∷ 0x00 ∷ 300 ∷ 0x00 ∷ token
 
 pub bytes-needed : (broken register wideType ≡ false) × (formOf register wideType ≡ wideType)
 unfolding computing
@@ -192,5 +194,5 @@ type-of toOpenSettings k e = impossible cc
 
 pub wide-unwritten : InRange register wideType → ⊥
 wide-unwritten r =
-    let w = written (wantedKind (r .wanted)) (wantedValues (r .wanted)) 30 wideType (r .writes-it 30 (omega arith)) in
+    let w = written (wantedKind (r .wanted)) (wantedValues (r .wanted)) 61 wideType (r .writes-it 61 (omega arith)) in
     type-of (r .wanted) (r .kind) (sym (rw (r .kind) at (w .yields)))

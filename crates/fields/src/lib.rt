@@ -20,12 +20,10 @@ pub const LEAST_OUTPUT: usize = 4096;
 // A field of which only the size is asked where it comes from a caller.
 pub enum Field {
     KeyId,
-    MixedToken,
     Aaid,
     Metadata,
     PublicKey,
     Nonce,
-    ContentHash,
     Signature,
     Certificate,
 }
@@ -36,12 +34,10 @@ fn size_of(f: Field) -> Size
 {
     match f {
         Field::KeyId => sizes::KEY_ID,
-        Field::MixedToken => sizes::MIXED_TOKEN,
         Field::Aaid => sizes::AAID,
         Field::Metadata => sizes::METADATA,
         Field::PublicKey => sizes::PUBLIC_KEY,
         Field::Nonce => sizes::NONCE,
-        Field::ContentHash => sizes::CONTENT_HASH,
         Field::Signature => sizes::SIGNATURE,
         Field::Certificate => sizes::CERTIFICATE,
     }

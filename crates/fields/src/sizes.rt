@@ -51,11 +51,11 @@ pub const ATTESTATION_TYPE: Size = Size {
 // As a command gives it.
 pub const ACCESS_TOKEN: Size = Size {
     tag: tags::KEYHANDLE_ACCESS_TOKEN,
-    least: 1,
+    least: 32,
     most: 32,
 };
 
-// As it is lent and stored.
+// As it is stored.
 pub const MIXED_TOKEN: Size = Size {
     tag: tags::KEYHANDLE_ACCESS_TOKEN,
     least: 32,

@@ -12,12 +12,13 @@ use Rattle.model.specs.Lists.{all, any, select, empty, eqBytes, among, d
 use Rattle.model.specs.Tlv.{le, fits, aaid, metadata, challengeHash, keyId, publicKey, username, nonce, contentHash, keyHandle, newCount, Kind, getInfo, register, sign, deregister, openSettings, kinds, broken, fieldsIn, fieldIn, responseTag}
 use Rattle.model.specs.Layouts.{Layout, end, size}
 use Rattle.model.specs.Records.{Record, Table, recordOk, hasMixed, own, keyIds, maxCount, maxOwn}
-use Rattle.model.specs.Commands.{statuses, verdictStatuses, displayStatuses, bytesOf, Lent, profileOk, lentOk, Call, mixedOf, Given, Check, judge, gave, Answer, response, draft, Change, keep, Decision, Effect, statusOnly, only, info, infoFields, infoResponse, decideGetInfo, keyRegistrationData, registerFields, registerDraft, registerChecks, decideRegister, chosen, namePairs, nameList, nameFields, nameResponse, signedData, hasContent, signFields, signDraft, signOne, signChosen, decideSign, decideDeregister, decideOpenSettings, decide, perform, kind, outcome, leastOutput}
+use Rattle.model.specs.Commands.{statuses, verdictStatuses, displayStatuses, bytesOf, Lent, profileOk, lentOk, Call, mixedOf, Given, Check, judge, gave, Answer, response, draft, Change, keep, Decision, Effect, statusOnly, only, info, infoFields, infoResponse, decideGetInfo, keyRegistrationData, registerFields, registerDraft, registerChecks, decideRegister, chosen, namePairs, nameList, nameFields, nameResponse, signedData, hasContent, transactionHash, signFields, signDraft, signOne, signChosen, decideSign, decideDeregister, decideOpenSettings, decide, perform, kind, outcome, leastOutput}
 use Rattle.model.specs.Complete.{draftsOf, isDraft}
 use Rattle.model.specs.Reader.{responses, isHandle, isSigned}
 use Rattle.model.proofs.Basics.{split, clash, and-left, and-right, both, eqBytes-refl, length-select, Passed, Each, numbersFrom}
 use Rattle.model.proofs.Numbers.{num-le, length-le}
 use Rattle.model.proofs.LayoutLaws.{fitAll}
+use Rattle.model.proofs.HashLaws.{hash-fits}
 use Rattle.model.proofs.Kept.{given-ok, select-keeps, Accepted, accepted}
 use Rattle.model.proofs.Rules.{Tests, tests}
 use Rattle.model.proofs.Fields.{field-fits}
@@ -51,7 +52,7 @@ pub data Said (l : Lent) (rs : Table) : Kind → Layout → List (List ℕ) → 
 pub data SaidDraft (q : List ℕ) (l : Lent) (rs : Table) : Kind → Layout → List (List ℕ) → Type 0 where
   new-key : SaidDraft q l rs register (keyRegistrationData end) (registerFields q l)
   one-chosen : (r : Record) → rs ≡ r ∷ []
-      → SaidDraft q l rs sign (signedData (hasContent q) end) (signFields (hasContent q) q l r)
+      → SaidDraft q l rs sign (signedData (hasContent q) end) (signFields (hasContent q) (transactionHash q) q l r)
 
 -- what is claimed of a response of a command, and of a draft
 pub record Responded (l : Lent) (rs : Table) (k : Kind) (s : List ℕ) : Type 0 where
@@ -243,14 +244,9 @@ names-good q l rs t h m =
       unsigned = both (pairs-unsigned (length rs)) refl;
     }
 
-signed-listed : (b : Bool) → List·Memᴰ (signedData b end) (drafts sign)
+pub signed-listed : (b : Bool) → List·Memᴰ (signedData b end) (drafts sign)
 signed-listed true = member 0 end (drafts sign) (omega arith)
 signed-listed false = member 1 end (drafts sign) (omega arith)
-
-hash-fits : (b : Bool) (v : List ℕ) → fits (contentHash true) v ≡ true → fits (contentHash b) (cond b v []) ≡ true
-unfolding fits
-hash-fits true v e = e
-hash-fits false v e = refl
 
 count-fits : (n : ℕ) → n < maxCount → fits newCount (le 4 (suc n)) ≡ true
 unfolding fits
@@ -258,20 +254,20 @@ count-fits n h =
     rw (length-le 4 (suc n), num-le 4 (suc n) (omega arith)) (lt-ltb 0 (suc n) (omega arith))
 
 pub sign-writes : (q : List ℕ) (l : Lent) (r : Record) → lentOk sign l ≡ true → broken sign q ≡ false → recordOk r ≡ true
-    → r .count < maxCount → WrittenBy (drafts sign) (signedData (hasContent q) end) (signFields (hasContent q) q l r) (signDraft q l r)
+    → r .count < maxCount
+    → WrittenBy (drafts sign) (signedData (hasContent q) end) (signFields (hasContent q) (transactionHash q) q l r) (signDraft q l r)
 unfolding le lentOk profileOk recordOk fitAll fits signDraft
 sign-writes q l r p b o u =
     let m : profileOk l ≡ true = search (and-left, and-right) in
     let a : fits aaid (l .aaid) ≡ true = search (and-left, and-right) in
     let n : fits nonce (l .nonce) ≡ true = search (and-left, and-right) in
-    let h : fits (contentHash true) (l .contentHash) ≡ true = search (and-left, and-right) in
     let k : fits keyId (r .keyId) ≡ true = search (and-left, and-right) in
     let c : fits challengeHash (fieldIn challengeHash q) ≡ true = field-fits sign q challengeHash b refl in
     let mode : ℕ = cond (hasContent q) 0x02 0x01 in
     record {
       listed = signed-listed (hasContent q);
       fit =
-          both (both a (both (eq-eqb mode mode refl) (both n (both c (both (hash-fits (hasContent q) (l .contentHash) h) (both k
+          both (both a (both (eq-eqb mode mode refl) (both n (both c (both (hash-fits q) (both k
           (both (count-fits (r .count) u) refl))))))) refl;
       number = refl;
       written = refl;
@@ -289,7 +285,7 @@ one-good q l r b p o =
     let u : r .count < maxCount = omega (arith, leb-true (r .count) maxCount m, eqb-false (r .count) maxCount (g .1 .0)) in
     record {
       layout = signedData (hasContent q) end;
-      values = signFields (hasContent q) q l r;
+      values = signFields (hasContent q) (transactionHash q) q l r;
       said = one-chosen r refl;
       written = sign-writes q l r p b o u;
     })

@@ -1,20 +1,25 @@
--- For examples that are computed: to unfold `computing` is to unfold all that a call, a trace and a writer compute with; and the caller, commands and answers
--- that several tables of examples share, byte by byte.
+-- For examples that are computed: to unfold `computing` is to unfold all that a call, a trace and a writer compute with but for hashes, which `hashing` unfolds; and the
+-- caller, commands and answers that several tables of examples share, byte by byte.
 -- Assumes nothing.
 use Prim.Native.Nat.{ℕ, zero, suc, _+_}
 use mathlib.Core.List.{List, [], _∷_, _++_}
 use lib.ListN.{replicate}
 use Rattle.model.specs.Lists.{eqBytes}
 use Rattle.model.specs.Utf8.{follow, utf8After}
+use Rattle.model.specs.Sha256.{be, _⊞_, rotr, Ch, Maj, Σ0, Σ1, σ0, σ1, K, padding, wordsOf, H0, nextWord, extend, schedule, T1, T2, step, steps, plus, compress, blocks, finish, digest, sha256}
 use Rattle.model.specs.Tlv.{num, le, bytes, tlvsPast, wellFormed, fits, kindOf, childrenOk, children, broken, fieldsIn, fieldIn}
 use Rattle.model.specs.Layouts.{fill, write, matches}
 use Rattle.model.specs.Records.{Record, Table, recordOk, own, tableOk, encode, storedAs, decode}
-use Rattle.model.specs.Commands.{Lent, profileOk, lentOk, judge, apply, only, infoResponse, decideGetInfo, registerDraft, registerChecks, decideRegister, chosen, nameResponse, hasContent, signDraft, signOne, signChosen, decideSign, decideDeregister, decideOpenSettings, decide, perform, tableOf, refusals, outcome}
+use Rattle.model.specs.Commands.{Lent, profileOk, lentOk, judge, apply, only, infoResponse, decideGetInfo, registerDraft, registerChecks, decideRegister, chosen, nameResponse, hasContent, mixedIn, transactionHash, signDraft, signOne, signChosen, decideSign, decideDeregister, decideOpenSettings, decide, perform, tableOf, refusals, outcome}
 use Rattle.model.specs.Writer.{marked, number, pieces, childrenFor, commandOf, eachOk, writable, writeValues, valuesIn, formOf}
-use Rattle.model.specs.Traces.{Form, itself, inStoredForm, result, next, final, callsOf, observe, fresh, roomy}
+use Rattle.model.specs.Traces.{Form, itself, inStoredForm, result, next, final, isHolders, callsOf, observe, fresh, roomy}
+
+unfoldable pub hashing : Unit {0}
+unfolding be _⊞_ rotr Ch Maj Σ0 Σ1 σ0 σ1 K padding wordsOf H0 nextWord extend schedule T1 T2 step steps plus compress blocks finish digest sha256 mixedIn
+hashing = tt
 
 unfoldable pub computing : Unit {0}
-unfolding eqBytes follow utf8After num le bytes tlvsPast wellFormed fits kindOf childrenOk children broken fieldsIn fieldIn fill write matches recordOk own tableOk encode storedAs decode profileOk lentOk judge apply only infoResponse decideGetInfo registerDraft registerChecks decideRegister chosen nameResponse hasContent signDraft signOne signChosen decideSign decideDeregister decideOpenSettings decide perform tableOf refusals outcome marked number pieces childrenFor commandOf eachOk writable writeValues valuesIn formOf result next final callsOf observe fresh roomy
+unfolding eqBytes follow utf8After num le bytes tlvsPast wellFormed fits kindOf childrenOk children broken fieldsIn fieldIn fill write matches recordOk own tableOk encode storedAs decode profileOk lentOk judge apply only infoResponse decideGetInfo registerDraft registerChecks decideRegister chosen nameResponse hasContent transactionHash signDraft signOne signChosen decideSign decideDeregister decideOpenSettings decide perform tableOf refusals outcome marked number pieces childrenFor commandOf eachOk writable writeValues valuesIn formOf result next final isHolders callsOf observe fresh roomy
 computing = tt
 
 -- two facts that are computed, one for each form: as clauses each would be computed once more
@@ -24,9 +29,14 @@ each-form P a b inStoredForm = b
 
 -- ---- the caller and its records
 
--- the caller's mixed token
+-- the caller's access token, and its mixed token where no AppID is given: `sha256 token`
+abbrev pub token : List ℕ
+token = replicate 32 0xAA
+
 abbrev pub holder : List ℕ
-holder = replicate 32 0xC0
+holder =
+    0xE0 ∷ 0xE7 ∷ 0x7A ∷ 0x50 ∷ 0x74 ∷ 0x12 ∷ 0xB1 ∷ 0x20 ∷ 0xF6 ∷ 0xED ∷ 0xE6 ∷ 0x1F ∷ 0x62 ∷ 0x29 ∷ 0x5B ∷ 0x1A
+    ∷ 0x7B ∷ 0x2F ∷ 0xF1 ∷ 0x9D ∷ 0x3D ∷ 0xCC ∷ 0x8F ∷ 0x72 ∷ 0x53 ∷ 0xE5 ∷ 0x16 ∷ 0x63 ∷ 0x47 ∷ 0x0C ∷ 0x88 ∷ 0x8E ∷ []
 
 -- an allowed profile and allowed lent results: the user is verified
 abbrev pub lent : Lent
@@ -39,11 +49,9 @@ lent =
       metadata = 0xB1 ∷ 0xB2 ∷ 0xB3 ∷ 0xB4 ∷ 0xB5 ∷ 0xB6 ∷ 0xB7 ∷ 0xB8 ∷ 0xB9 ∷ 0xBA ∷ 0xBB ∷ 0xBC ∷ 0xBD ∷ 0xBE ∷ 0xBF ∷ [];
       verdict = 0;
       display = 0;
-      mixed = holder;
       keyId = replicate 32 0xD0;
       publicKey = 0xD1 ∷ 0xD2 ∷ [];
       nonce = replicate 8 0xD3;
-      contentHash = replicate 32 0xD4;
     }
 
 -- a record of the caller, which has signed 7 times
@@ -68,15 +76,14 @@ standing k m (suc n) = record { keyId = replicate 32 (k + n); mixed = m; name = 
 
 abbrev pub signCommand : List ℕ
 signCommand =
-    0x03 ∷ 0x34 ∷ 0x0F ∷ 0x00 ∷ 0x0D ∷ 0x28 ∷ 0x01 ∷ 0x00 ∷ 0x00 ∷ 0x0A ∷ 0x2E ∷ 0x01 ∷ 0x00 ∷ 0xAA ∷ 0x05 ∷ 0x28 ∷ 0x01 ∷ 0x00
-    ∷ 0xAA ∷ []
+    0x03 ∷ 0x34 ∷ 0x2E ∷ 0x00 ∷ 0x0D ∷ 0x28 ∷ 0x01 ∷ 0x00 ∷ 0x00 ∷ 0x0A ∷ 0x2E ∷ 0x01 ∷ 0x00 ∷ 0xAA ∷ 0x05 ∷ 0x28 ∷ 0x20 ∷ 0x00 ∷ token
 
 -- a Register whose value has so many bytes, with a username of n
 abbrev pub registerCommand : ℕ → ℕ → List ℕ
 registerCommand size n =
     0x02 ∷ 0x34 ∷ size ∷ 0x00 ∷ 0x0D ∷ 0x28 ∷ 0x01 ∷ 0x00 ∷ 0x00 ∷ 0x0A ∷ 0x2E ∷ 0x01 ∷ 0x00 ∷ 0xAA
     ∷ 0x06 ∷ 0x28 ∷ n ∷ 0x00 ∷ replicate n 0x43
-    ++ (0x07 ∷ 0x28 ∷ 0x02 ∷ 0x00 ∷ 0x07 ∷ 0x3E ∷ 0x05 ∷ 0x28 ∷ 0x01 ∷ 0x00 ∷ 0xAA ∷ [])
+    ++ (0x07 ∷ 0x28 ∷ 0x02 ∷ 0x00 ∷ 0x07 ∷ 0x3E ∷ 0x05 ∷ 0x28 ∷ 0x20 ∷ 0x00 ∷ token)
 
 -- ---- answers
 

@@ -9,11 +9,13 @@ use lib.ListN.{length}
 use lib.Dec.{eqb}
 use borrow.Author.Tests.{eq-eqb, ne-eqb, not-true}
 use Rattle.model.specs.Lists.{select, empty, eqBytes, among, all}
-use Rattle.model.specs.Tlv.{le, Tlv, tlv, bytes, challengeHash, keyHandle, transactionContent, sign, broken, fieldsIn, fieldIn}
+use Rattle.model.specs.Sha256.{sha256}
+use Rattle.model.specs.Tlv.{le, Tlv, tlv, bytes, appId, challengeHash, accessToken, keyHandle, transactionContent, sign, broken, fieldsIn, fieldIn}
 use Rattle.model.specs.Layouts.{fill, write}
 use Rattle.model.specs.Records.{Record, Table, own, keyIds, hasMixed, tableOk}
 use Rattle.model.specs.Commands.{Lent, keep, setCount, Call, mixedOf, judge, response, draft, isKey, withCount, apply, only, displayStatus, chosen, namePairs, nameFields, nameResponse, hasContent, signDraft, signOne, signChosen, decideSign, decide, perform}
 use Rattle.model.proofs.Basics.{split, and-left, and-right, eqBytes-eq, eqBytes-sym, eqBytes-refl, or-left, or-right, both, select-same, select-both}
+use Rattle.model.proofs.HashLaws.{mixed-alike, empty-not-hashed, content-hashed, hash-alike}
 use Rattle.model.proofs.Edges.{says, carried, Stands, stands, alone}
 
 -- ---- the choice
@@ -188,19 +190,21 @@ module _ (s : List ℕ) (l : Lent) (r : Record) (n : ℕ) (count : suc (r .count
   pub without-content : fieldIn transactionContent s ≡ []
       → signDraft s l r ≡ signedBytes l (fieldIn challengeHash s) (r .keyId) 0x01 [] (le 4 n)
   unfolding signDraft hasContent write fill
-  without-content e = rw (e, count)
+  without-content e = rw (empty-not-hashed s e, e, count)
 
   pub with-content : (b : ℕ) (bs : List ℕ) → fieldIn transactionContent s ≡ b ∷ bs
-      → signDraft s l r ≡ signedBytes l (fieldIn challengeHash s) (r .keyId) 0x02 (l .contentHash) (le 4 n)
+      → signDraft s l r ≡ signedBytes l (fieldIn challengeHash s) (r .keyId) 0x02 (sha256 (b ∷ bs)) (le 4 n)
   unfolding signDraft hasContent write fill
-  with-content b bs e = rw (e, count)
+  with-content b bs e = rw (content-hashed s b bs e, e, count)
 
 -- ---- handles given twice, and handles of strangers
 
--- two Signs that are alike but for their handles
+-- two Signs of one holder that are alike but for their handles
 pub record Alike (c d : Call) : Type 0 where
   pub lent : c .lent ≡ d .lent
   pub sound : broken sign (c .command) ≡ broken sign (d .command)
+  pub token : fieldIn accessToken (c .command) ≡ fieldIn accessToken (d .command)
+  pub app-id : fieldIn appId (c .command) ≡ fieldIn appId (d .command)
   pub content : fieldIn transactionContent (c .command) ≡ fieldIn transactionContent (d .command)
   pub challenge : fieldIn challengeHash (c .command) ≡ fieldIn challengeHash (d .command)
 
@@ -208,13 +212,14 @@ module _ (c d : Call) (k : Alike c d) (t : Table) where
   sign-alike : (rs : Table) → signChosen (c .command) (c .lent) rs ≡ signChosen (d .command) (c .lent) rs
   unfolding signChosen signOne signDraft hasContent
   sign-alike [] = refl
-  sign-alike (r ∷ []) = rw (k .content, k .challenge)
+  sign-alike (r ∷ []) = rw (hash-alike (c .command) (d .command) (k .content), k .content, k .challenge)
   sign-alike (r ∷ q ∷ rs) = refl
 
   pub same-choice : (hs gs : List (List ℕ)) → fieldsIn keyHandle (c .command) ≡ hs → fieldsIn keyHandle (d .command) ≡ gs
       → chosen hs (own (mixedOf c) t) ≡ chosen gs (own (mixedOf c) t) → perform sign c t ≡ perform sign d t
   unfolding perform decide decideSign
-  same-choice hs gs e f p = rw (← k .lent, k .sound, sign-alike _, e, f, p)
+  same-choice hs gs e f p =
+      rw (← k .lent, k .sound, sign-alike _, ← mixed-alike (c .command) (d .command) (k .token) (k .app-id), e, f, p)
 
   module _ (a : List (List ℕ)) (h : List ℕ) (b : List (List ℕ)) (e : fieldsIn keyHandle (c .command) ≡ a ++ (h ∷ b)) where
     pub handle-twice : fieldsIn keyHandle (d .command) ≡ a ++ b → among h (a ++ b) ≡ true → perform sign c t ≡ perform sign d t

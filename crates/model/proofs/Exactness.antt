@@ -11,12 +11,13 @@ use Rattle.model.specs.Lists.{any}
 use Rattle.model.specs.Tlv.{Bytes}
 use Rattle.model.specs.Layouts.{reads}
 use Rattle.model.specs.Commands.{value, refused, gave, leastOutput}
-use Rattle.model.specs.Complete.{Completion, isDraft, completionOk, completed, complete}
+use Rattle.model.specs.Complete.{Completion, draftsOf, isDraft, completionOk, completed, complete}
 use Rattle.model.specs.Reader.{Reading, responses, isResponse, readResponse, isSigned}
 use Rattle.model.proofs.Basics.{split, clash, and-left, impossible}
-use Rattle.model.proofs.LayoutWritten.{all-member, any-found, outerTag, one-tag}
+use Rattle.model.proofs.LayoutLaws.{reads-written}
+use Rattle.model.proofs.LayoutWritten.{WrittenBy, all-member, any-found, outerTag, one-tag}
 use Rattle.model.proofs.CompletionWrites.{completion-passed, draft-reads}
-use Rattle.model.proofs.ReadBack.{CommandReadBack, command-read-back, DraftReadBack, draft-read-back}
+use Rattle.model.proofs.ReadBack.{CommandReadBack, command-read-back, CompletionReadBack, completion-read-back}
 use Rattle.model.proofs.Refusals.{not-read, no-draft, completes}
 use Rattle.model.proofs.DraftWitness.{Drafted, draft-witness, drafted-taken}
 use Rattle.model.proofs.ResponseWitness.{Origin, by-command, by-completion, response-witness}
@@ -28,16 +29,22 @@ read-response s r e =
     split (isResponse s) (λ f. f)
     (λ f. let g = not-read s f in impossible cc)
 
+completed-read : (c : Completion) (s : List ℕ) → Bytes (c .draft) → complete c ≡ gave s → (r : Reading) × (readResponse s ≡ gave r)
+unfolding isDraft
+completed-read c s b e =
+    let (l, i, p) = any-found (λ l. reads l (c .draft)) (draftsOf (c .kind)) (completion-passed c s e .0) in
+    let f = reads-written l (c .draft) b p in
+    let w : WrittenBy (draftsOf (c .kind)) l (f .values) (c .draft) =
+    record { listed = i; fit = f .fit; number = f .number; written = f .written } in
+    let r : CompletionReadBack c l (f .values) s = completion-read-back c s l (f .values) w e in
+    (r .back .reading, r .back .read)
+
 origin-read : (s : List ℕ) → Origin s → (r : Reading) × (readResponse s ≡ gave r)
 origin-read s (by-command k a) =
     let b : CommandReadBack (a .call) (value (a .table)) s =
     command-read-back (a .call) (value (a .table)) (a .effect) s (a .gives) (a .answers) in
     (b .back .reading, b .back .read)
-origin-read s (by-completion f) =
-    let m = f .drafted .made in
-    let b : DraftReadBack (m .call) (value (m .table)) (f .completion) s =
-    draft-read-back (m .call) (value (m .table)) (m .effect) (f .completion) s (m .gives) (m .answers) (f .completes) in
-    (b .back .back .reading, b .back .back .read)
+origin-read s (by-completion f) = completed-read (f .completion) s (f .inputs .0) (f .completes)
 
 pub reader-exact : (s : List ℕ) → Bytes s → ((r : Reading) × (readResponse s ≡ gave r)) ↔ Origin s
 reader-exact s b = ((λ p. response-witness s b (read-response s (p .0) (p .1))), origin-read s)

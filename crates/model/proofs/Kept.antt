@@ -18,6 +18,7 @@ use Rattle.model.specs.Commands.{Call, Given, value, stored, mixedOf, Re
 use Rattle.model.specs.Traces.{Step, result, next, leftBy}
 use Rattle.model.proofs.Basics.{split, clash, and-left, and-right, both, or-left, or-right, not-not, eqBytes-eq, eqBytes-sym, all-append, all-map, select-append, select-comm, all-select, length-select, select-map, judged, impossible}
 use Rattle.model.proofs.StoredForm.{decode-ok}
+use Rattle.model.proofs.HashLaws.{mixed-fits}
 use Rattle.model.proofs.Rules.{record-rules, Tests, tests, tested}
 use Rattle.model.proofs.Fields.{field-fits}
 
@@ -163,7 +164,7 @@ module _ (c : Call) (t : Table) where
       → Room t (record { keyId = c .lent .keyId; mixed = mixedOf c; name = fieldIn username (c .command); count = 0 })
   unfolding lentOk recordOk
   register-room l b n f =
-      let m : fits mixedToken (mixedOf c) ≡ true = search (and-left, and-right) in
+      let m : fits mixedToken (mixedOf c) ≡ true = mixed-fits (c .command) in
       let k : fits keyId (c .lent .keyId) ≡ true = search (and-left, and-right) in
       record {
         few = leb-false _ _ (or-right (leb maxOwn (length (own (mixedOf c) t))) _ f);

@@ -10,7 +10,7 @@ use lib.ListN.{length}
 use lib.Dec.{leb, ltb, eqb}
 use borrow.Author.Tests.{leb-true, ltb-true, eqb-true, le-leb, lt-ltb, eqb-false, ne-eqb}
 use Rattle.model.specs.Lists.{empty}
-use Rattle.model.specs.Tlv.{Field, ruleOf, fits, aaid, metadata, mixedToken, keyId, publicKey, nonce, contentHash, signature, certificate, full, surrogate, Kind, getInfo, register, sign, deregister, openSettings}
+use Rattle.model.specs.Tlv.{Field, ruleOf, fits, aaid, metadata, keyId, publicKey, nonce, signature, certificate, full, surrogate, Kind, getInfo, register, sign, deregister, openSettings}
 use Rattle.model.specs.Commands.{Lent, profileOk, lentOk}
 use Rattle.model.specs.Complete.{Completion, completionOk}
 use Rattle.model.proofs.Basics.{split, clash, and-left, and-right, both, either}
@@ -24,30 +24,28 @@ pub record ProfileRules (l : Lent) : Type 0 where
   pub signature-algorithm : l .signatureAlgorithm < 65536
   pub key-algorithm : l .keyAlgorithm < 65536
 
--- "Register profile, verdict, mixed token, KeyID, public key"
+-- "Register profile, verdict, .. KeyID, public key"
 pub record RegisterRules (l : Lent) : Type 0 where
   pub profile : ProfileRules l
   pub verdict : l .verdict ≤ 5
-  pub mixed-token : length (l .mixed) ≡ 32
   pub key-id : length (l .keyId) ≡ 32
   pub public-key-least : 1 ≤ length (l .publicKey)
   pub public-key-most : length (l .publicKey) ≤ 512
 
--- "Sign profile, verdict, display result, mixed token, nonce, transaction hash"
+-- "Sign profile, verdict, display result, .. nonce"
 pub record SignRules (l : Lent) : Type 0 where
   pub profile : ProfileRules l
   pub verdict : l .verdict ≤ 5
   pub display : l .display ≤ 3
-  pub mixed-token : length (l .mixed) ≡ 32
   pub nonce-least : 8 ≤ length (l .nonce)
   pub nonce-most : length (l .nonce) ≤ 32
-  pub hash : length (l .contentHash) ≡ 32
 
+-- A4: "neither is lent and refusal 4 no longer looks at them": of mixed token and transaction hash nothing is asked, so a Deregister is never refused with 4
 abbrev pub LentRules : Kind → Lent → Type 0
 LentRules getInfo l = ProfileRules l
 LentRules register l = RegisterRules l
 LentRules sign l = SignRules l
-LentRules deregister l = length (l .mixed) ≡ 32
+LentRules deregister l = Unit {0}
 LentRules openSettings l = Unit {0}
 
 between : (f : Field) (v : List ℕ) → fits f v ≡ true → (ruleOf f .least ≤ length v) × (length v ≤ ruleOf f .most)
@@ -79,35 +77,29 @@ lent-rules getInfo l e = profile-rules l e
 lent-rules register l e =
     let p : profileOk l ≡ true = search (and-left, and-right) in
     let v : leb (l .verdict) 5 ≡ true = search (and-left, and-right) in
-    let m : fits mixedToken (l .mixed) ≡ true = search (and-left, and-right) in
     let i : fits keyId (l .keyId) ≡ true = search (and-left, and-right) in
     let k : fits publicKey (l .publicKey) ≡ true = search (and-left, and-right) in
-    omega (arith, leb-true, profile-rules l p, between _ _ m, between _ _ i, between _ _ k)
+    omega (arith, leb-true, profile-rules l p, between _ _ i, between _ _ k)
 lent-rules sign l e =
     let p : profileOk l ≡ true = search (and-left, and-right) in
     let v : leb (l .verdict) 5 ≡ true = search (and-left, and-right) in
     let d : leb (l .display) 3 ≡ true = search (and-left, and-right) in
-    let m : fits mixedToken (l .mixed) ≡ true = search (and-left, and-right) in
     let n : fits nonce (l .nonce) ≡ true = search (and-left, and-right) in
-    let h : fits (contentHash true) (l .contentHash) ≡ true = search (and-left, and-right) in
-    omega (arith, leb-true, profile-rules l p, between _ _ m, between _ _ n, between _ _ h)
-lent-rules deregister l e = omega (arith, between _ _ e)
+    omega (arith, leb-true, profile-rules l p, between _ _ n)
+lent-rules deregister l e = tt
 lent-rules openSettings l e = tt
 
 pub lent-ok : (k : Kind) (l : Lent) → LentRules k l → lentOk k l ≡ true
 unfolding lentOk
 lent-ok getInfo l r = obeys-profile l r
 lent-ok register l r =
-    let m : fits mixedToken (l .mixed) ≡ true = size-fits _ _ (omega arith) (omega arith) refl in
     let i : fits keyId (l .keyId) ≡ true = size-fits _ _ (omega arith) (omega arith) refl in
     let k : fits publicKey (l .publicKey) ≡ true = size-fits _ _ (omega arith) (omega arith) refl in
-    both (both (both (both (obeys-profile l (r .profile)) (le-leb _ _ (r .verdict))) m) i) k
+    both (both (both (obeys-profile l (r .profile)) (le-leb _ _ (r .verdict))) i) k
 lent-ok sign l r =
-    let m : fits mixedToken (l .mixed) ≡ true = size-fits _ _ (omega arith) (omega arith) refl in
     let n : fits nonce (l .nonce) ≡ true = size-fits _ _ (omega arith) (omega arith) refl in
-    let h : fits (contentHash true) (l .contentHash) ≡ true = size-fits _ _ (omega arith) (omega arith) refl in
-    both (both (both (both (both (obeys-profile l (r .profile)) (le-leb _ _ (r .verdict))) (le-leb _ _ (r .display))) m) n) h
-lent-ok deregister l r = size-fits _ _ (omega arith) (omega arith) refl
+    both (both (both (obeys-profile l (r .profile)) (le-leb _ _ (r .verdict))) (le-leb _ _ (r .display))) n
+lent-ok deregister l r = refl
 lent-ok openSettings l r = refl
 
 -- ---- completion

@@ -7,9 +7,12 @@ pub mod Tlvs
 pub mod LayoutLaws
 pub mod Utf8Chars
 pub mod Utf8Laws
+pub mod Sha256Laws
+pub mod Sha256Roots
 pub mod StoredForm
 pub mod Rules
 pub mod Fields
+pub mod HashLaws
 pub mod Kept
 pub mod PartLaws
 pub mod LayoutWritten

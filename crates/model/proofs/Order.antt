@@ -2,7 +2,7 @@
 -- order": the order of children with different tags changes nothing.
 -- Assumes nothing.
 use mathlib.Core.Path.{_≡_, refl, sym, _∙_}
-use mathlib.Core.Bool.{Bool}
+use mathlib.Core.Bool.{Bool, true, false, not, _&&_}
 use mathlib.Core.List.{List, [], _∷_, _++_}
 use mathlib.Core.Option.{Option, none, some, Option·getD, map-eq-some-iff}
 use Prim.Native.Nat.{ℕ, zero, suc, _+_, _≤_}
@@ -12,12 +12,14 @@ use lib.Seq.{length-take-le}
 use lib.Dec.{eqb}
 use borrow.Author.Tests.{eqb-true}
 use Rattle.model.specs.Lists.{all}
-use Rattle.model.specs.Tlv.{num, Tlv, tlvsPast, Kind, getInfo, register, sign, deregister, openSettings, Field, challengeHash, username, attestationType, keyIdOrNone, transactionContent, Listed, fieldsOf, tagOf, kindOf, fills, maxCommand, childOk, listed, valuesOf, timesOk, childrenOk, children, broken, fieldsIn, fieldIn}
+use Rattle.model.specs.Tlv.{num, Tlv, tlvsPast, Kind, getInfo, register, sign, deregister, openSettings, Field, appId, challengeHash, username, attestationType, accessToken, keyIdOrNone, transactionContent, Listed, fieldsOf, tagOf, kindOf, fills, maxCommand, childOk, listed, valuesOf, timesOk, childrenOk, children, broken, fieldsIn, fieldIn}
 use Rattle.model.specs.Records.{Table}
-use Rattle.model.specs.Commands.{Lent, Given, decideGetInfo, registerDraft, registerChecks, decideRegister, hasContent, signDraft, signOne, signChosen, decideSign, decideDeregister, decideOpenSettings, decide, perform, refusals, outcome}
+use Rattle.model.specs.Commands.{Lent, Call, Given, mixedIn, decideGetInfo, registerDraft, registerChecks, decideRegister, hasContent, signDraft, signOne, signChosen, decideSign, decideDeregister, decideOpenSettings, decide, perform, refusals, outcome}
+use Rattle.model.specs.Traces.{hasToken}
 use Rattle.model.specs.Writer.{command}
-use Rattle.model.proofs.Basics.{split, impossible, Each, each-of}
+use Rattle.model.proofs.Basics.{split, impossible, and-left, Each, each-of}
 use Rattle.model.proofs.Tlvs.{Sized}
+use Rattle.model.proofs.HashLaws.{mixed-alike, hash-alike, strangers-perform}
 use Rattle.model.proofs.Witness.{total, children-command}
 
 -- ---- the same rules kept or broken, and the same values of the listed fields
@@ -34,7 +36,8 @@ module _ (s u : List ℕ) where
       → (l : Lent) (rs : Table) → signChosen s l rs ≡ signChosen u l rs
   unfolding signChosen signOne signDraft hasContent
   chosen-alike c t l [] = refl
-  chosen-alike c t l (r ∷ []) = rw (first-alike transactionContent t, first-alike challengeHash c)
+  chosen-alike c t l (r ∷ []) =
+      rw (hash-alike s u (first-alike transactionContent t), first-alike transactionContent t, first-alike challengeHash c)
   chosen-alike c t l (r ∷ q ∷ rs) = refl
 
 pub alike : (k : Kind) (s u : List ℕ) → broken k s ≡ broken k u → SameValues k s u → (l : Lent) (mine : Table) (taken filled : Bool)
@@ -47,13 +50,32 @@ alike sign s u b (i, (a, (c, (t, (k, (w, (h, v))))))) l mine taken filled = rw (
 alike deregister s u b (i, (a, (k, v))) l mine taken filled = rw (b, first-alike s u keyIdOrNone k)
 alike openSettings s u b v l mine taken filled = rw b
 
+-- the mixed token too, where there is one
+mixed-same : (k : Kind) (s u : List ℕ) → SameValues k s u → hasToken k ≡ true → mixedIn s ≡ mixedIn u
+mixed-same getInfo s u v h = impossible cc
+mixed-same register s u (i, (a, (c, (n, (t, (k, v)))))) h = mixed-alike s u (first-alike s u accessToken k) (first-alike s u appId a)
+mixed-same sign s u (i, (a, (c, (t, (k, v))))) h = mixed-alike s u (first-alike s u accessToken k) (first-alike s u appId a)
+mixed-same deregister s u (i, (a, (j, (k, v)))) h = mixed-alike s u (first-alike s u accessToken k) (first-alike s u appId a)
+mixed-same openSettings s u v h = impossible cc
+
+alike-perform : (k : Kind) (s u : List ℕ) → broken k s ≡ broken k u → SameValues k s u → (l : Lent) (n : ℕ) (o : Option ℕ) (t : Table)
+    → perform k (record { command = s; lent = l; output = n; tableOutput = o }) t
+    ≡ perform k (record { command = u; lent = l; output = n; tableOutput = o }) t
+alike-perform k s u b v l n o t =
+    let c : Call = record { command = s; lent = l; output = n; tableOutput = o } in
+    let d : Call = record { command = u; lent = l; output = n; tableOutput = o } in
+    split (hasToken k && not (broken k s))
+    (λ h. unfold perform in rw (mixed-same k s u v (and-left (hasToken k) _ h), alike k s u b v))
+    (λ h. let e : (hasToken k && not (broken k u)) ≡ false = rw (← b) h in
+    rw (strangers-perform k c h t, strangers-perform k d e t, alike k s u b v))
+
 -- so a call with the one command gives what it gives with the other; one that names no kind is taken for GetInfo and refused
 pub alike-call : (k : Kind) (s u : List ℕ) → broken k s ≡ broken k u → SameValues k s u → (l : Lent) (n : ℕ) (o : Option ℕ) (g : Given)
     → kindOf s ≡ kindOf u → Option·getD (kindOf s) getInfo ≡ k
     → outcome (record { command = s; lent = l; output = n; tableOutput = o }) g
     ≡ outcome (record { command = u; lent = l; output = n; tableOutput = o }) g
-unfolding outcome refusals perform
-alike-call k s u b v l n o g e f = rw (← e, f, alike k s u b v)
+unfolding outcome refusals
+alike-call k s u b v l n o g e f = rw (← e, f, alike-perform k s u b v l n o)
 
 -- ---- other orders
 

@@ -13,7 +13,7 @@ use borrow.Author.Tests.{leb-true, ltb-true, eqb-true}
 use Rattle.model.specs.Lists.{select, first, distinct, any, all}
 use Rattle.model.specs.Tlv.{num, le, bytes, fits, ruleOf, Kind, register, sign, broken, responseTag}
 use Rattle.model.specs.Layouts.{Layout, end, field, group, size, fill, write}
-use Rattle.model.specs.Commands.{Call, Given, tableOf, Effect, gave, response, kind, outcome, Lent, lentOk, statuses, draft, keyRegistrationData, registerFields, registerDraft, signedData, hasContent, signFields, signDraft}
+use Rattle.model.specs.Commands.{Call, Given, tableOf, Effect, gave, response, kind, outcome, Lent, lentOk, statuses, draft, keyRegistrationData, registerFields, registerDraft, signedData, hasContent, transactionHash, signFields, signDraft}
 use Rattle.model.specs.Records.{Table, Record, recordOk, maxCount}
 use Rattle.model.specs.Complete.{Completion, draftsOf, complete, isDraft}
 use Rattle.model.specs.Reader.{Part, Stretch, Reading, parts, fieldParts, cut, responses, isResponse, signedPart, stretch, readResponse, isSigned}
@@ -235,9 +235,9 @@ module _ (x : Completion) (s : List ℕ) (done : complete x ≡ gave s) (q : Lis
 
   pub sign-read-back : (r : Record) → lentOk sign l ≡ true → broken sign q ≡ false → recordOk r ≡ true → r .count < maxCount
       → x .draft ≡ signDraft q l r
-      → CompletionReadBack x (signedData (hasContent q) end) (signFields (hasContent q) q l r) s
+      → CompletionReadBack x (signedData (hasContent q) end) (signFields (hasContent q) (transactionHash q) q l r) s
   sign-read-back r p b o u e =
-      completion-of sign x s _ _ (subst (WrittenBy (drafts sign) _ (signFields (hasContent q) q l r)) (sym e) (sign-writes q l r p b o u)) done .1
+      completion-of sign x s _ _ (subst (WrittenBy (drafts sign) _ (signFields (hasContent q) (transactionHash q) q l r)) (sym e) (sign-writes q l r p b o u)) done .1
 
 -- the draft of any call
 pub record DraftReadBack (c : Call) (g : Given) (x : Completion) (s : List ℕ) : Type 0 where

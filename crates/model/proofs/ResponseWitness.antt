@@ -11,10 +11,11 @@ use Rattle.model.specs.Lists.{any, all, select, eqBytes, distinct}
 use Rattle.model.specs.Tlv.{Bytes, num, le, tlv, bytes, Kind, getInfo, register, sign, deregister, openSettings, Field, statusAmong, ok, apiVersion, index, aaid, metadata, contentType, assertionScheme, fullType, surrogateType, signature, certificate, full, surrogate, textPlain, uafV1Tlv, ruleOf, tagOf, fits, tlvsPast, childrenOk, children, broken, responseTag, assertionTag, regAssertionTag, authAssertionTag}
 use Rattle.model.specs.Layouts.{Layout, end, field, group, fields, size, fill, write, reads}
 use Rattle.model.specs.Records.{Table, hasMixed, keyIds, recordOk, own, tableOk}
-use Rattle.model.specs.Commands.{statuses, Decision, Lent, response, gave, statusOnly, info, namePairs, nameList, nameFields, nameResponse, keyRegistrationData, signedData, judge, profileOk, lentOk, infoResponse, decideGetInfo, decide, perform, leastOutput}
+use Rattle.model.specs.Commands.{statuses, Decision, Lent, mixedIn, response, gave, statusOnly, info, namePairs, nameList, nameFields, nameResponse, keyRegistrationData, signedData, judge, profileOk, lentOk, infoResponse, decideGetInfo, decide, perform, leastOutput}
+use Rattle.model.specs.Writer.{command}
 use Rattle.model.specs.Complete.{Completion, completionOk, signatureOf, attestation, completed, complete}
 use Rattle.model.specs.Reader.{listLengths, asserted, registered, signed, responses, listedKeys, isResponse, isHandle}
-use Rattle.model.proofs.Basics.{and-left, and-right, both, eqBytes-eq, select-all, length-select, Each}
+use Rattle.model.proofs.Basics.{and-left, and-right, both, eqBytes-eq, eqBytes-refl, select-all, length-select, Each}
 use Rattle.model.proofs.Tlvs.{bytes-append}
 use Rattle.model.proofs.LayoutLaws.{AllBytes, tagsOk, most, reads-written, first-bytes, rest-bytes, write-bytes, fits-allowed}
 use Rattle.model.proofs.PartLaws.{nodes, leaves, honest}
@@ -22,6 +23,7 @@ use Rattle.model.proofs.LayoutWritten.{any-found, each-member, keys-lis
 use Rattle.model.proofs.Rules.{tested}
 use Rattle.model.proofs.EdgesSign.{several-listed}
 use Rattle.model.proofs.LentLaws.{profile-ok}
+use Rattle.model.proofs.HashLaws.{mixed-bytes, mixed-fits}
 use Rattle.model.proofs.Witness.{Answered, recordParts, zeros, byte, zero-bytes, calling, lending, lendingZeros, signing, calling-gives, taken, Fit, all-fit, fit-each}
 use Rattle.model.proofs.StatusWitness.{status-witness}
 use Rattle.model.proofs.DraftWitness.{Drafted, drafted-taken, register-drafted, sign-drafted, sign-chooses}
@@ -55,7 +57,7 @@ unfolding perform decide decideGetInfo judge broken children childrenOk tlvsPast
 info-answers l = refl
 
 info-lent : (a m : List ℕ) → fits aaid a ≡ true → fits metadata m ≡ true
-    → lentOk getInfo (lending a 0 0 0 m 0 0 (zeros 32) (zeros 32) byte (zeros 8) (zeros 32)) ≡ true
+    → lentOk getInfo (lending a 0 0 0 m 0 0 (zeros 32) byte (zeros 8)) ≡ true
 unfolding lentOk
 info-lent a m fa fm = profile-ok _ fa fm (lit< tt) (lit< tt) (lit< tt)
 
@@ -70,9 +72,9 @@ unfolding write fill infoResponse tableOk
 info-made o v i a m c s x y rest f b =
     let ((fo, (fv, ((fi, (fa, (fm, (fc, (fs, (fx, (fy, u))))))), w))), q) = f in
     let z = zero-bytes in
-    let l = lending a 0 0 0 m 0 0 (zeros 32) (zeros 32) byte (zeros 8) (zeros 32) in
+    let l = lending a 0 0 0 m 0 0 (zeros 32) byte (zeros 8) in
     calling-gives getInfo [] l [] (response (write info (o ∷ v ∷ i ∷ a ∷ m ∷ c ∷ s ∷ x ∷ y ∷ rest))) tt
-    (b .1 .1 .1 .0, (b .1 .1 .1 .1 .0, (z 32, (z 32, (z 1, (z 8, (z 32, tt))))))) (info-lent a m fa fm) refl
+    (b .1 .1 .1 .0, (b .1 .1 .1 .1 .0, (z 32, (z 1, (z 8, tt))))) (info-lent a m fa fm) refl
     (info-answers l
     ∙ rw (
       exact ok (le 2 0) o (or-false (eqBytes (le 2 0) o)) fo,
@@ -193,10 +195,17 @@ signed-writes content vs f b n d =
 
 -- ---- name lists
 
--- the records of which these values are the names and KeyIDs
+-- the Sign that is answered so, and its mixed token
+abbrev naming : List ℕ
+naming = command sign (signing [] byte)
+
+abbrev caller : List ℕ
+caller = mixedIn naming
+
+-- the caller's records of which these values are the names and KeyIDs
 abbrev named : ℕ → List (List ℕ) → Table
 named zero vs = []
-named (suc n) vs = record { keyId = getD (drop 1 vs) 0 []; mixed = zeros 32; name = getD vs 0 []; count = 0 } ∷ named n (drop 2 vs)
+named (suc n) vs = record { keyId = getD (drop 1 vs) 0 []; mixed = caller; name = getD vs 0 []; count = 0 } ∷ named n (drop 2 vs)
 
 length-named : (n : ℕ) (vs : List (List ℕ)) → length (named n vs) ≡ n
 length-named zero vs = refl
@@ -211,17 +220,16 @@ named-records : (n : ℕ) (vs : List (List ℕ)) → Fit (namePairs n) vs → al
 unfolding recordOk fits
 named-records zero vs f = refl
 named-records (suc n) vs f =
-    both (both (both (both (f .0 .1 .0) refl) (f .0 .0)) refl) (named-records n (drop 2 vs) (f .1))
+    both (both (both (both (f .0 .1 .0) (mixed-fits naming)) (f .0 .0)) refl) (named-records n (drop 2 vs) (f .1))
 
 named-bytes : (n : ℕ) (vs : List (List ℕ)) → AllBytes vs → AllBytes (recordParts (named n vs))
 named-bytes zero vs b = tt
 named-bytes (suc n) vs b =
-    (first-bytes (drop 1 vs) (rest-bytes 1 vs b), (zero-bytes 32, (first-bytes vs b, named-bytes n (drop 2 vs) (rest-bytes 2 vs b))))
+    (first-bytes (drop 1 vs) (rest-bytes 1 vs b), (mixed-bytes naming, (first-bytes vs b, named-bytes n (drop 2 vs) (rest-bytes 2 vs b))))
 
-named-mixed : (n : ℕ) (vs : List (List ℕ)) → all (λ r. eqBytes (r .mixed) (zeros 32)) (named n vs) ≡ true
-unfolding eqBytes
+named-mixed : (n : ℕ) (vs : List (List ℕ)) → all (λ r. eqBytes (r .mixed) caller) (named n vs) ≡ true
 named-mixed zero vs = refl
-named-mixed (suc n) vs = named-mixed n (drop 2 vs)
+named-mixed (suc n) vs = both (eqBytes-refl caller) (named-mixed n (drop 2 vs))
 
 named-ok : (n : ℕ) (vs : List (List ℕ)) → n ≤ 8 → Fit (namePairs n) vs → distinct (keyIds (named n vs)) ≡ true
     → tableOk (named n vs) ≡ true
@@ -235,7 +243,7 @@ named-ok n vs k f d =
       once = d;
     }
 
-names-answer : (t : Table) → 2 ≤ length t → all (λ r. eqBytes (r .mixed) (zeros 32)) t ≡ true
+names-answer : (t : Table) → 2 ≤ length t → all (λ r. eqBytes (r .mixed) caller) t ≡ true
     → perform sign (calling sign (signing [] byte) (lendingZeros 0 0)) t .answer ≡ response (nameResponse t)
 unfolding own fits
 names-answer t n e =
@@ -273,8 +281,8 @@ names-write n h k vs f b m d =
     let t = named n (drop 1 vs) in
     let e : write (nameList (length t)) (le 2 0 ∷ nameFields t) ≡ write (nameList n) vs = write-named n vs (f .0 .0) in
     by-command sign
-    (calling-gives sign (signing [] byte) (lendingZeros 0 0) t (response (write (nameList n) vs)) (z 1, (z 1, (tt, (z 1, tt))))
-    (z 9, (z 15, (z 32, (z 32, (z 1, (z 8, (z 32, named-bytes n (drop 1 vs) (rest-bytes 1 vs b)))))))) refl
+    (calling-gives sign (signing [] byte) (lendingZeros 0 0) t (response (write (nameList n) vs)) (z 1, (z 1, (tt, (z 32, tt))))
+    (z 9, (z 15, (z 32, (z 1, (z 8, named-bytes n (drop 1 vs) (rest-bytes 1 vs b)))))) refl
     (named-ok n (drop 1 vs) k (f .0 .1) (rw (listed-named n vs f k) at d))
     (names-answer t (omega (arith, length-named n (drop 1 vs))) (named-mixed n (drop 1 vs)) ∙ ap response e))
 

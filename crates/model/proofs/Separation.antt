@@ -8,13 +8,14 @@ use Prim.Native.Nat.{ℕ}
 use lib.ListN.{length}
 use lib.Dec.{leb, ltb}
 use borrow.Author.Tests.{ltb-true, lt-leb, not-true}
-use Rattle.model.specs.Lists.{all, empty, eqBytes, among}
+use Rattle.model.specs.Lists.{all, consIf, empty, eqBytes, among}
 use Rattle.model.specs.Tlv.{Kind, getInfo, register, sign, deregister, openSettings, kinds, isCommand, kindOf, keyIdOrNone, fieldIn}
 use Rattle.model.specs.Records.{Record, Table, own, keyIds, hasMixed, tableOk, maxRecords}
-use Rattle.model.specs.Commands.{Lent, Call, mixedOf, Check, judge, Result, refused, gave, Answer, Change, keep, add, setCount, remove, removeAll, isKey, withCount, apply, Decision, only, decideGetInfo, decideRegister, signOne, signChosen, decideSign, decideDeregister, decideOpenSettings, decide, Effect, perform, value, tableOf, kind, refusals, outcome}
-use Rattle.model.specs.Traces.{Form, itself, inStoredForm, Step, handed, result, leftBy, next, final, isOf, callsOf, answered, Seen, observe, registers, fresh, roomy, SeparationOfHolders}
-use Rattle.model.proofs.Basics.{split, clash, and-left, and-right, both, eqBytes-eq, eqBytes-refl, eqBytes-sym, all-same, all-append, all-select, select-append, select-comm, select-narrow, select-map, map-select, all-map, first-passes, judged, judge-map}
+use Rattle.model.specs.Commands.{Lent, Call, mixedOf, Check, judge, Result, refused, gave, Answer, Change, keep, add, setCount, remove, removeAll, isKey, withCount, apply, Decision, only, decideGetInfo, decideRegister, signOne, signChosen, decideSign, decideDeregister, decideOpenSettings, decide, Effect, performFor, perform, value, tableOf, kind, refusals, outcome}
+use Rattle.model.specs.Traces.{Form, itself, inStoredForm, Step, handed, result, leftBy, next, final, isHolders, isOf, callsOf, answered, Seen, observe, registers, fresh, roomy, SeparationOfHolders}
+use Rattle.model.proofs.Basics.{Each, split, clash, and-left, and-right, both, eqBytes-eq, eqBytes-refl, eqBytes-sym, all-same, all-append, all-select, select-append, select-comm, select-narrow, select-map, map-select, all-map, first-passes, judged, judge-map}
 use Rattle.model.proofs.StoredForm.{decode-encode}
+use Rattle.model.proofs.HashLaws.{strangers-perform}
 use Rattle.model.proofs.Kept.{next-kept}
 
 -- ---- selections and changes
@@ -131,8 +132,11 @@ next-is s t e = rw (result-is s t e) (judge-map (λ r. leftBy r t) (checks (s .c
 
 -- a stranger's call leaves the holder's records
 next-other : (h : List ℕ) (s : Step) (t : Table) → tableOk t ≡ true → isOf h s ≡ false → own h (next s t) ≡ own h t
-unfolding perform
-next-other h s t e o = rw (next-is s t e) (judged (λ u. own h u ≡ own h t) (checks (s .call)) _ _ (λ n. refl) (λ k. other-apply _ h o _ t))
+unfolding isHolders
+next-other h s t e o =
+    rw (next-is s t e)
+    (judged (λ u. own h u ≡ own h t) (checks (s .call)) _ _ (λ n. refl)
+    (λ k. split (isHolders (s .call)) (λ b. unfold perform in other-apply _ h (rw b at o) _ t) (λ b. rw (strangers-perform (kind (s .call)) (s .call) b t))))
 
 -- what a holder's call alone decides, answers and leaves over its own records, with its KeyID new and room in the table
 ruling : Call → Table → Decision
@@ -259,7 +263,7 @@ alone h seen [] t g = record { answers = refl; records = refl }
 alone h seen (s ∷ ss) t g =
     let ih = alone h (after s seen) ss (next s t) (going h seen s ss t g) in
     split (isOf h s)
-    (λ o. let m = eqBytes-eq (mixedOf (s .call)) h o in
+    (λ o. let m = eqBytes-eq (mixedOf (s .call)) h (and-right (isHolders (s .call)) _ o) in
     let a = answer-alone s t (g .rules) (free h seen s ss t g o) in
     let l = left-alone s t (g .rules) (free h seen s ss t g o) in
     record { answers = cc; records = cc })
@@ -272,31 +276,51 @@ separation h a b c =
     let q = alone h [] b [] (record { rules = refl; lent = refl; new = c .fresh-b; room = c .roomy-b }) in
     record { seen = cc; records = cc }
 
--- ---- a trace run with no check of the table, which computes in a third of the time: a table that obeys the rules needs none
+-- ---- a trace run with no check of the table, which computes in a third of the time: a table that obeys the rules needs none; and with the mixed tokens
+-- said by w, so that no hash is computed more than once
 
--- what a holder sees, whether it finds room, and how many records are left; the same with a call before
+-- what a holder sees, its calls, whether it finds room, its records at the end, and how many there are in all; the same with a call before, which is the holder's or not
 pub record Run : Type 0 where
   pub seen : List Seen
+  pub calls : List Call
   pub room : Bool
+  pub records : Table
   pub size : ℕ
 
-abbrev pub before : List ℕ → Step → Table → Result Effect → Run → Run
-before h s t r rest =
+abbrev pub before : Bool → List ℕ → Step → Table → Result Effect → Run → Run
+before mine h s t r rest =
     record {
-      seen = cond (isOf h s) (record { answer = answered r; records = own h (leftBy r t) } ∷ rest .seen) (rest .seen);
-      room = cond (isOf h s && registers s) (ltb (length t) maxRecords) true && rest .room;
+      seen = cond mine (record { answer = answered r; records = own h (leftBy r t) } ∷ rest .seen) (rest .seen);
+      calls = consIf mine (s .call) (rest .calls);
+      room = cond (mine && registers s) (ltb (length t) maxRecords) true && rest .room;
+      records = rest .records;
       size = rest .size;
     }
 
-abbrev pub run : List ℕ → List Step → Table → Run
-run h [] t = record { seen = []; room = true; size = length t }
-run h (s ∷ ss) t =
-    let r = judge (refusals (s .call) (value [])) refused (gave (perform (kind (s .call)) (s .call) t)) in
-    before h s t r (run h ss (leftBy r t))
+abbrev pub run : (Call → List ℕ) → List ℕ → List Step → Table → Run
+run w h [] t = record { seen = []; calls = []; room = true; records = own h t; size = length t }
+run w h (s ∷ ss) t =
+    let m = w (s .call) in
+    let r = judge (refusals (s .call) (value [])) refused (gave (performFor m (kind (s .call)) (s .call) t)) in
+    before (isHolders (s .call) && eqBytes m h) h s t r (run w h ss (leftBy r t))
 
-pub run-is : (h : List ℕ) (ss : List Step) (t : Table) → tableOk t ≡ true
-    → record { seen = observe h ss t; room = roomy h ss t; size = length (final ss t) } ≡ run h ss t
+-- w says the mixed tokens
+abbrev pub Says : (Call → List ℕ) → List Step → Type 0
+Says w ss = Each (λ s. w (s .call) ≡ mixedOf (s .call)) ss
+
+calls-of : (h : List ℕ) (s : Step) (ss : List Step) → callsOf h (s ∷ ss) ≡ consIf (isOf h s) (s .call) (callsOf h ss)
+unfolding callsOf
+calls-of h s ss = split (isOf h s) (λ e. rw e) (λ e. rw e)
+
+-- what they are of a trace
+abbrev pub trueRun : List ℕ → List Step → Table → Run
+trueRun h ss t =
+    record { seen = observe h ss t; calls = callsOf h ss; room = roomy h ss t; records = own h (final ss t); size = length (final ss t) }
+
+pub run-is : (w : Call → List ℕ) (h : List ℕ) (ss : List Step) (t : Table) → Says w ss → tableOk t ≡ true → trueRun h ss t ≡ run w h ss t
 unfolding observe roomy final next checks
-run-is h [] t e = refl
-run-is h (s ∷ ss) t e =
-    ap (before h s t (result s t)) (run-is h ss (next s t) (next-kept s t e)) ∙ rw (result-is s t e)
+run-is w h [] t u e = unfold callsOf in refl
+run-is w h (s ∷ ss) t u e =
+    rw (calls-of h s ss)
+    (ap (before (isOf h s) h s t (result s t)) (run-is w h ss (next s t) (u .1) (next-kept s t e))
+    ∙ rw (result-is s t e, u .0) (unfold perform in refl))

@@ -27,7 +27,7 @@ recordParts (r ∷ t) = r .keyId ∷ r .mixed ∷ r .name ∷ recordParts t
 abbrev pub stretches : Call → Table → List (List ℕ)
 stretches c t =
     let l = c .lent in
-    c .command ∷ l .aaid ∷ l .metadata ∷ l .mixed ∷ l .keyId ∷ l .publicKey ∷ l .nonce ∷ l .contentHash ∷ recordParts t
+    c .command ∷ l .aaid ∷ l .metadata ∷ l .keyId ∷ l .publicKey ∷ l .nonce ∷ recordParts t
 
 -- allowed inputs with which this command answers so: bytes, and the call is not refused
 pub record Answered (k : Kind) (a : Answer) : Type 0 where
@@ -47,6 +47,10 @@ zeros n = replicate n 0
 abbrev pub byte : List ℕ
 byte = zeros 1
 
+-- an access token
+abbrev pub token : List ℕ
+token = zeros 32
+
 abbrev pub child : Field → List ℕ → Tlv
 child f v = tlv (tagOf f) v
 
@@ -54,8 +58,8 @@ abbrev pub calling : Kind → List Tlv → Lent → Call
 calling k ts l = record { command = command k ts; lent = l; output = leastOutput; tableOutput = none }
 
 abbrev pub lending : (aaid : List ℕ) (version signatureAlgorithm keyAlgorithm : ℕ) (metadata : List ℕ) (verdict display : ℕ)
-    (mixed keyId publicKey nonce contentHash : List ℕ) → Lent
-lending a v s k m verdict display x i p n h =
+    (keyId publicKey nonce : List ℕ) → Lent
+lending a v s k m verdict display i p n =
     record {
       aaid = a;
       version = v;
@@ -64,24 +68,22 @@ lending a v s k m verdict display x i p n h =
       metadata = m;
       verdict = verdict;
       display = display;
-      mixed = x;
       keyId = i;
       publicKey = p;
       nonce = n;
-      contentHash = h;
     }
 
 -- lent results of zeros, with this verdict and display result
 abbrev pub lendingZeros : ℕ → ℕ → Lent
-lendingZeros verdict display = lending (zeros 9) 0 0 0 (zeros 15) verdict display (zeros 32) (zeros 32) byte (zeros 8) (zeros 32)
+lendingZeros verdict display = lending (zeros 9) 0 0 0 (zeros 15) verdict display (zeros 32) byte (zeros 8)
 
 -- the children of Register and of Sign: the challenge hash h, an attestation type, the transaction content x
 abbrev pub registering : List ℕ → ℕ → List Tlv
 registering h type =
-    child index byte ∷ child challengeHash h ∷ child username byte ∷ child attestationType (le 2 type) ∷ child accessToken byte ∷ []
+    child index byte ∷ child challengeHash h ∷ child username byte ∷ child attestationType (le 2 type) ∷ child accessToken token ∷ []
 
 abbrev pub signing : (x h : List ℕ) → List Tlv
-signing x h = child index byte ∷ child challengeHash h ∷ child transactionContent x ∷ child accessToken byte ∷ []
+signing x h = child index byte ∷ child challengeHash h ∷ child transactionContent x ∷ child accessToken token ∷ []
 
 -- ---- bytes
 
@@ -110,7 +112,7 @@ pub kind-command : (k : Kind) (ts : List Tlv) → kindOf (command k ts) ≡ some
 unfolding bytes le
 kind-command k ts = kind-named k (command k ts) (le-leb 4 (length (command k ts)) (omega arith)) (num-le 2 (commandTag k) (tag-small k))
 
-pub calling-gives : (k : Kind) (ts : List Tlv) (l : Lent) (t : Table) (a : Answer) → Held ts
+unfoldable pub calling-gives : (k : Kind) (ts : List Tlv) (l : Lent) (t : Table) (a : Answer) → Held ts
     → AllBytes (drop 1 (stretches (calling k ts l) t)) → lentOk k l ≡ true → tableOk t ≡ true → perform k (calling k ts l) t .answer ≡ a
     → Answered k a
 unfolding outcome refusals tableOf judge

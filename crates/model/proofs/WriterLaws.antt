@@ -7,7 +7,7 @@ use mathlib.Core.Logic.{_⊎_, inl, inr}
 use mathlib.Core.Option.{none, some, Option·getD}
 use Prim.Native.Nat.{ℕ, _+_, _≤_, _<_, zero-le}
 use native.Mathlib.Omega.{arith}
-use lib.ListN.{length}
+use lib.ListN.{length, replicate}
 use lib.Dec.{leb, ltb, eqb}
 use borrow.Author.Tests.{eqb-true, eqb-false, eq-eqb, ne-eqb, leb-true, leb-false, le-leb, lt-leb, ltb-true, lt-ltb, le-ltb, not-true}
 use Rattle.model.specs.Lists.{all, given, eqBytes}
@@ -363,13 +363,13 @@ writing-over k vss n s out e h =
 -- a Sign with transaction content v and no more than it must have
 module _ (c t : ℕ) (v : List ℕ) where
   abbrev pub contentOnly : Wanted
-  contentOnly = toSign 0 [] (c ∷ []) 1 v (t ∷ []) 0 [] [] []
+  contentOnly = toSign 0 [] (c ∷ []) 1 v (replicate 32 t) 0 [] [] []
 
-  pub content-length : length (commandOf sign (wantedValues contentOnly)) ≡ 23 + length v
+  pub content-length : length (commandOf sign (wantedValues contentOnly)) ≡ 54 + length v
   unfolding commandOf childrenFor marked pieces
   content-length = rw length-command (omega arith)
 
-  content-ok : length v ≤ 8169 → writable sign (wantedValues contentOnly) ≡ true
+  content-ok : length v ≤ 8138 → writable sign (wantedValues contentOnly) ≡ true
   unfolding writable eachOk fits eqBytes marked pieces
   content-ok h =
       rw (
@@ -379,19 +379,19 @@ module _ (c t : ℕ) (v : List ℕ) where
       )
 
   module _ (n : ℕ) where
-    pub content-writes : length v ≤ 8169 → 23 + length v ≤ n → writeCommand contentOnly n ≡ gave (commandOf sign (wantedValues contentOnly))
+    pub content-writes : length v ≤ 8138 → 54 + length v ≤ n → writeCommand contentOnly n ≡ gave (commandOf sign (wantedValues contentOnly))
     content-writes h m = writes sign (wantedValues contentOnly) n (content-ok h) (omega (arith, content-length))
 
-    pub content-written : (s : List ℕ) → writeCommand contentOnly n ≡ gave s → (length v ≤ 8169) × (23 + length v ≤ n)
+    pub content-written : (s : List ℕ) → writeCommand contentOnly n ≡ gave s → (length v ≤ 8138) × (54 + length v ≤ n)
     content-written s e =
         let (w, h, f) = gave-command sign (wantedValues contentOnly) n s e in
         (omega (arith, content-length, writable-means sign (wantedValues contentOnly) w .1), omega (arith, content-length))
 
-    pub content-refuses : 8169 < length v → writeCommand contentOnly n ≡ refused 6
+    pub content-refuses : 8138 < length v → writeCommand contentOnly n ≡ refused 6
     content-refuses h = refuses-6 sign (wantedValues contentOnly) n (inr (omega (arith, content-length)))
 
-    pub content-refused : writeCommand contentOnly n ≡ refused 6 → 8169 < length v
+    pub content-refused : writeCommand contentOnly n ≡ refused 6 → 8138 < length v
     content-refused e =
-        up-to (length v) 8169
+        up-to (length v) 8138
         (λ h. clash (content-ok h) (not-writable sign (wantedValues contentOnly) (refused-6 sign (wantedValues contentOnly) n e)))
         (λ h. h)

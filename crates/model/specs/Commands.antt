@@ -6,11 +6,13 @@ use mathlib.Core.Option.{Option, none, some, Option·getD, Option·map}
 use lib.ListN.{length, drop, getD}
 use lib.Dec.{leb, ltb, eqb}
 use Rattle.model.specs.Lists.{select, empty, given, eqBytes, among}
-use Rattle.model.specs.Tlv.{num, le, fits, index, challengeHash, username, attestationType, keyHandle, keyId, keyIdOrNone, transactionContent, mixedToken, aaid, metadata, publicKey, nonce, statusAmong, ok, apiVersion, contentType, assertionScheme, fullType, surrogateType, noCounts, newCount, assertionInfo, contentHash, full, surrogate, textPlain, uafV1Tlv, Kind, getInfo, register, sign, deregister, openSettings, kindOf, broken, fieldsIn, fieldIn, responseTag, pairTag, infoTag, krdTag, signedTag}
+use Rattle.model.specs.Sha256.{sha256}
+use Rattle.model.specs.Tlv.{num, le, fits, index, appId, challengeHash, username, attestationType, accessToken, keyHandle, keyId, keyIdOrNone, transactionContent, aaid, metadata, publicKey, nonce, statusAmong, ok, apiVersion, contentType, assertionScheme, fullType, surrogateType, noCounts, newCount, assertionInfo, contentHash, full, surrogate, textPlain, uafV1Tlv, Kind, getInfo, register, sign, deregister, openSettings, kindOf, broken, fieldsIn, fieldIn, responseTag, pairTag, infoTag, krdTag, signedTag}
 use Rattle.model.specs.Layouts.{Layout, end, field, group, fields, write}
 use Rattle.model.specs.Records.{Record, Table, maxCount, maxRecords, maxOwn, maxStored, own, keyIds, hasMixed, tableOk, encode, decode}
 
--- "The profile is lent" ("Records", last paragraph): aaid to metadata; hashing, keys, fingerprint and display "lend their results": the rest
+-- "The profile is lent" ("Records", last paragraph): aaid to metadata; keys, fingerprint and display "lend their results": the rest. Hashing does not:
+-- see `mixedIn` and `transactionHash`
 pub record Lent : Type 0 where
   pub aaid : List ℕ
   pub version : ℕ
@@ -19,11 +21,9 @@ pub record Lent : Type 0 where
   pub metadata : List ℕ
   pub verdict : ℕ
   pub display : ℕ
-  pub mixed : List ℕ
   pub keyId : List ℕ
   pub publicKey : List ℕ
   pub nonce : List ℕ
-  pub contentHash : List ℕ
 
 -- a call: the command, what is lent, the response output's length and, "where a stored table is written", the length of its own output
 pub record Call : Type 0 where
@@ -32,9 +32,13 @@ pub record Call : Type 0 where
   pub output : ℕ
   pub tableOutput : Option ℕ
 
--- the caller's mixed token
+-- A4: "The token works out the mixed token and the transaction hash". The caller's mixed token is the hash of access token and AppID, which "run
+-- together without a mark"; "A missing AppID adds no bytes"
+unfoldable pub mixedIn : List ℕ → List ℕ
+mixedIn s = sha256 (fieldIn accessToken s ++ fieldIn appId s)
+
 abbrev pub mixedOf : Call → List ℕ
-mixedOf c = c .lent .mixed
+mixedOf c = mixedIn (c .command)
 
 -- ---- the first check that fails answers with its number
 
@@ -84,15 +88,13 @@ profileOk l =
     fits aaid (l .aaid) && fits metadata (l .metadata) && ltb (l .version) 65536 && ltb (l .signatureAlgorithm) 65536
     && ltb (l .keyAlgorithm) 65536
 
--- the verdict is 0 to 5, the display result 0 to 3
+-- the verdict is 0 to 5, the display result 0 to 3; Deregister and Open settings use nothing that is lent
 unfoldable pub lentOk : Kind → Lent → Bool
 lentOk getInfo l = profileOk l
 lentOk register l =
-    profileOk l && leb (l .verdict) 5 && fits mixedToken (l .mixed) && fits keyId (l .keyId) && fits publicKey (l .publicKey)
-lentOk sign l =
-    profileOk l && leb (l .verdict) 5 && leb (l .display) 3 && fits mixedToken (l .mixed) && fits nonce (l .nonce)
-    && fits (contentHash true) (l .contentHash)
-lentOk deregister l = fits mixedToken (l .mixed)
+    profileOk l && leb (l .verdict) 5 && fits keyId (l .keyId) && fits publicKey (l .publicKey)
+lentOk sign l = profileOk l && leb (l .verdict) 5 && leb (l .display) 3 && fits nonce (l .nonce)
+lentOk deregister l = true
 lentOk openSettings l = true
 
 unfoldable pub refusals : Call → Given → List Check
@@ -221,7 +223,7 @@ decideRegister s l mine taken filled =
 
 -- ---- Sign
 
--- "Chosen are records with the lent mixed token and, if key handles are given, a KeyID among them"
+-- "Chosen are records with the lent mixed token", now the caller's, "and, if key handles are given, a KeyID among them"
 unfoldable pub chosen : List (List ℕ) → Table → Table
 chosen handles mine = select (λ r. empty handles || among (r .keyId) handles) mine
 
@@ -255,13 +257,21 @@ signedData content rest =
 unfoldable pub hasContent : List ℕ → Bool
 hasContent s = not (empty (fieldIn transactionContent s))
 
-abbrev pub signFields : Bool → List ℕ → Lent → Record → List (List ℕ)
-signFields content s l r =
+-- A4: "the transaction hash, that of the content"; an empty one is not hashed
+unfoldable pub transactionHash : List ℕ → List ℕ
+transactionHash s = cond (hasContent s) (sha256 (fieldIn transactionContent s)) []
+
+abbrev pub signFields : Bool → (hash : List ℕ) → List ℕ → Lent → Record → List (List ℕ)
+signFields content hash s l r =
     l .aaid ∷ (le 2 (l .version) ++ (cond content 0x02 0x01 ∷ le 2 (l .signatureAlgorithm))) ∷ l .nonce ∷ fieldIn challengeHash s
-    ∷ cond content (l .contentHash) [] ∷ r .keyId ∷ le 4 (suc (r .count)) ∷ []
+    ∷ hash ∷ r .keyId ∷ le 4 (suc (r .count)) ∷ []
+
+-- the draft with this transaction hash, and with the command's own
+abbrev pub signDraftOf : (hash : List ℕ) → List ℕ → Lent → Record → List ℕ
+signDraftOf hash s l r = write (signedData (hasContent s) end) (signFields (hasContent s) hash s l r)
 
 unfoldable pub signDraft : List ℕ → Lent → Record → List ℕ
-signDraft s l r = write (signedData (hasContent s) end) (signFields (hasContent s) s l r)
+signDraft s l r = signDraftOf (transactionHash s) s l r
 
 -- "1 0x05, 2 CANNOT_RENDER_TRANSACTION_CONTENT 0x04, 3 0x0E"
 abbrev pub displayStatuses : List ℕ
@@ -324,11 +334,14 @@ pub record Effect : Type 0 where
   pub answer : Answer
   pub left : Table
 
--- a command decided from the caller's own records, and its change made
+-- a command decided from the records of mixed token m, and its change made; m is the caller's
+abbrev pub performFor : List ℕ → Kind → Call → Table → Effect
+performFor m k c t =
+    let d = decide k (c .command) (c .lent) (own m t) (among (c .lent .keyId) (keyIds t)) (leb maxRecords (length t)) in
+    record { answer = d .answer; left = apply m (d .change) t }
+
 unfoldable pub perform : Kind → Call → Table → Effect
-perform k c t =
-    let d = decide k (c .command) (c .lent) (own (mixedOf c) t) (among (c .lent .keyId) (keyIds t)) (leb maxRecords (length t)) in
-    record { answer = d .answer; left = apply (mixedOf c) (d .change) t }
+perform k c t = performFor (mixedOf c) k c t
 
 -- what a call gives; past the checks there is a table
 unfoldable pub outcome : Call → Given → Result Effect

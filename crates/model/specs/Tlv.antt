@@ -188,7 +188,8 @@ ruleOf challengeHash = sized 0x2E0A 1 32
 -- A1: "A username must now be well-formed UTF-8 by RFC 3629, still 1 to 128 bytes"
 ruleOf username = rule 0x2806 1 128 utf8
 ruleOf attestationType = sized 0x2807 2 2
-ruleOf accessToken = sized 0x2805 1 32
+-- A4: "An access token must now be 32 bytes, else 0x08"
+ruleOf accessToken = sized 0x2805 32 32
 ruleOf keyHandle = sized 0x2801 32 32
 ruleOf keyIdOrNone = rule 0x2E09 0 32 (λ v. eqb (length v) 0 || eqb (length v) 32)
 ruleOf userVerifyToken = sized 0x2803 0 maxCommand

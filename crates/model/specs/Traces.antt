@@ -1,14 +1,14 @@
 -- Document 01, "Two afternoons": an afternoon is called a trace here.
 use Prim.Native.Nat.{ℕ}
 use mathlib.Core.Path.{_≡_}
-use mathlib.Core.Bool.{Bool, true, not, cond, _&&_}
+use mathlib.Core.Bool.{Bool, true, false, not, cond, _&&_}
 use mathlib.Core.List.{List, [], _∷_, map}
 use lib.ListN.{length}
 use lib.Dec.{ltb}
 use Rattle.model.specs.Lists.{select, eqBytes, among}
-use Rattle.model.specs.Tlv.{register, isCommand}
+use Rattle.model.specs.Tlv.{Kind, getInfo, register, sign, deregister, openSettings, isCommand, broken}
 use Rattle.model.specs.Records.{Table, own, encode, maxRecords}
-use Rattle.model.specs.Commands.{Call, Given, value, stored, mixedOf, Result, refused, gave, Effect, Answer, outcome}
+use Rattle.model.specs.Commands.{Call, Given, value, stored, mixedOf, kind, Result, refused, gave, Effect, Answer, outcome}
 
 -- a call, and how it is handed the table: "itself or in its stored form"
 pub data Form : Type 0 where
@@ -37,9 +37,20 @@ unfoldable pub final : List Step → Table → Table
 final [] t = t
 final (s ∷ ss) t = final ss (next s t)
 
--- "A call lent a holder's mixed token .. is that holder's, whatever it answers"
+-- A4: "A holder's commands are now those, 0x08 aside, whose token and AppID give its hash", whatever they answer. GetInfo and Open settings have no
+-- access token, so they are strangers' calls, and so are bytes that are no command
+abbrev pub hasToken : Kind → Bool
+hasToken getInfo = false
+hasToken register = true
+hasToken sign = true
+hasToken deregister = true
+hasToken openSettings = false
+
+unfoldable pub isHolders : Call → Bool
+isHolders c = hasToken (kind c) && not (broken (kind c) (c .command))
+
 abbrev pub isOf : List ℕ → Step → Bool
-isOf h s = eqBytes (mixedOf (s .call)) h
+isOf h s = isHolders (s .call) && eqBytes (mixedOf (s .call)) h
 
 unfoldable pub callsOf : List ℕ → List Step → List Call
 callsOf h ss = map (λ s. s .call) (select (isOf h) ss)

@@ -5,8 +5,8 @@ use mathlib.Core.Option.{Option}
 use Rattle.model.specs.Commands.{Lent, Call}
 use Rattle.params.specs.declared.lent.Numbers.{Numbers}
 
-abbrev pub lentOf : (aaid : List ℕ) → Numbers → (metadata mixed keyId publicKey nonce contentHash : List ℕ) → Lent
-lentOf aaid n metadata mixed keyId publicKey nonce contentHash =
+abbrev pub lentOf : (aaid : List ℕ) → Numbers → (metadata keyId publicKey nonce : List ℕ) → Lent
+lentOf aaid n metadata keyId publicKey nonce =
     record {
       aaid = aaid;
       version = n .version;
@@ -15,11 +15,9 @@ lentOf aaid n metadata mixed keyId publicKey nonce contentHash =
       metadata = metadata;
       verdict = n .verdict;
       display = n .display;
-      mixed = mixed;
       keyId = keyId;
       publicKey = publicKey;
       nonce = nonce;
-      contentHash = contentHash;
     }
 
 -- the numbers among them

@@ -44,7 +44,7 @@ fn numbers_ok(numbers: Numbers) -> bool
 
 // The profile.
 fn profile_ok(aaid: &[u8], numbers: Numbers, metadata: &[u8]) -> bool
-    ensures { λ r. ⌜ r ≡ profileOk (lentOf (now (aaid .entry)) numbers (now (metadata .entry)) [] [] [] [] []) ⌝ }
+    ensures { λ r. ⌜ r ≡ profileOk (lentOf (now (aaid .entry)) numbers (now (metadata .entry)) [] [] []) ⌝ }
 {
     if !fits(Field::Aaid, aaid) {
         return false;
@@ -56,13 +56,10 @@ fn profile_ok(aaid: &[u8], numbers: Numbers, metadata: &[u8]) -> bool
 }
 
 // What Register is lent besides the profile.
-fn register_ok(verdict: u32, mixed: &[u8], key_id: &[u8], public_key: &[u8]) -> bool
-    ensures { λ r. ⌜ r ≡ (leb verdict 5 && fits model.mixedToken (now (mixed .entry)) && fits model.keyId (now («key_id» .entry)) && fits model.publicKey (now («public_key» .entry))) ⌝ }
+fn register_ok(verdict: u32, key_id: &[u8], public_key: &[u8]) -> bool
+    ensures { λ r. ⌜ r ≡ (leb verdict 5 && fits model.keyId (now («key_id» .entry)) && fits model.publicKey (now («public_key» .entry))) ⌝ }
 {
     if LAST_VERDICT < verdict {
-        return false;
-    }
-    if !fits(Field::MixedToken, mixed) {
         return false;
     }
     if !fits(Field::KeyId, key_id) {
@@ -72,9 +69,8 @@ fn register_ok(verdict: u32, mixed: &[u8], key_id: &[u8], public_key: &[u8]) -> 
 }
 
 // What Sign is lent besides the profile.
-fn sign_ok(numbers: Numbers, mixed: &[u8], nonce: &[u8], hash: &[u8]) -> bool
-    ensures { λ r. ⌜
-        r ≡ (leb (numbers .verdict) 5 && leb (numbers .display) 3 && fits model.mixedToken (now (mixed .entry)) && fits model.nonce (now (nonce .entry)) && fits (model.contentHash true) (now (hash .entry))) ⌝ }
+fn sign_ok(numbers: Numbers, nonce: &[u8]) -> bool
+    ensures { λ r. ⌜ r ≡ (leb (numbers .verdict) 5 && leb (numbers .display) 3 && fits model.nonce (now (nonce .entry))) ⌝ }
 {
     if LAST_VERDICT < numbers.verdict {
         return false;
@@ -82,30 +78,22 @@ fn sign_ok(numbers: Numbers, mixed: &[u8], nonce: &[u8], hash: &[u8]) -> bool
     if LAST_DISPLAY < numbers.display {
         return false;
     }
-    if !fits(Field::MixedToken, mixed) {
-        return false;
-    }
-    if !fits(Field::Nonce, nonce) {
-        return false;
-    }
-    fits(Field::ContentHash, hash)
+    fits(Field::Nonce, nonce)
 }
 
-// Whether the lent results that a command uses have the right lengths and numbers.
+// Whether the lent results that a command uses have the right lengths and numbers. Deregister and Open settings use none.
 pub fn lent_ok(
     kind: Kind,
     aaid: &[u8],
     numbers: Numbers,
     metadata: &[u8],
-    mixed: &[u8],
     key_id: &[u8],
     public_key: &[u8],
     nonce: &[u8],
-    hash: &[u8],
 ) -> bool
     ensures { λ r. ⌜
         r ≡ lentOk (kindIs kind)
-        (lentOf (now (aaid .entry)) numbers (now (metadata .entry)) (now (mixed .entry)) (now («key_id» .entry)) (now («public_key» .entry)) (now (nonce .entry)) (now (hash .entry))) ⌝ }
+        (lentOf (now (aaid .entry)) numbers (now (metadata .entry)) (now («key_id» .entry)) (now («public_key» .entry)) (now (nonce .entry))) ⌝ }
 {
     match kind {
         Kind::GetInfo => profile_ok(aaid, numbers, metadata),
@@ -113,15 +101,15 @@ pub fn lent_ok(
             if !profile_ok(aaid, numbers, metadata) {
                 return false;
             }
-            register_ok(numbers.verdict, mixed, key_id, public_key)
+            register_ok(numbers.verdict, key_id, public_key)
         }
         Kind::Sign => {
             if !profile_ok(aaid, numbers, metadata) {
                 return false;
             }
-            sign_ok(numbers, mixed, nonce, hash)
+            sign_ok(numbers, nonce)
         }
-        Kind::Deregister => fits(Field::MixedToken, mixed),
+        Kind::Deregister => true,
         Kind::OpenSettings => true,
     }
 }

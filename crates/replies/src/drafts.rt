@@ -1,5 +1,6 @@
 use fields::tags;
 use params::lent::Numbers;
+use sha256::message::hash;
 use tlv::numbers::put8;
 use tlv::numbers::put16;
 use tlv::writer::put_header;
@@ -10,6 +11,7 @@ ghost use Prim.Native.Nat.{_+_, _≤_};
 ghost use mathlib.Core.Bool.{cond};
 ghost use mathlib.Core.List.{[], _∷_, _++_};
 ghost use lib.ListN.{length};
+ghost use Rattle.model.specs.Sha256.{sha256};
 ghost use Rattle.model.specs.Tlv.{le, tlv, bytes};
 ghost use Rattle.tlv.specs.Writing.{Wrote};
 ghost use Rattle.replies.specs.Writes.{infoStart, krd, signedDraft};
@@ -66,18 +68,19 @@ pub fn put_krd(
     put_tlv(out, a6, tags::PUB_KEY, public_key)
 }
 
-// The transaction hash, which is empty without content.
-fn put_content_hash(out: &mut [u8], at: usize, hash: &[u8], content: bool) -> usize
-    requires { ⌜ (length (now hash) ≡ 32) × (at + cond content 36 4 ≤ length (now out)) ⌝ }
-    ensures { λ r. ⌜ Wrote (now (out .entry)) at (bytes (tlv 0x2E10 (cond content (now (hash .entry)) []) ∷ [])) (cond content 36 4) (now (out .exit)) r ⌝ }
+// The transaction hash, that of the content where it lies; without content it is empty, and nothing is hashed.
+fn put_content_hash(out: &mut [u8], at: usize, shown: &[u8], content: bool) -> usize
+    requires { ⌜ at + cond content 36 4 ≤ length (now out) ⌝ }
+    ensures { λ r. ⌜ Wrote (now (out .entry)) at (bytes (tlv 0x2E10 (cond content (sha256 (now (shown .entry))) []) ∷ [])) (cond content 36 4) (now (out .exit)) r ⌝ }
 {
     if content {
-        return put_tlv(out, at, tags::TRANSACTION_CONTENT_HASH, hash);
+        let hash = hash(shown, b"");
+        return put_tlv(out, at, tags::TRANSACTION_CONTENT_HASH, &hash);
     }
     put_header(out, at, tags::TRANSACTION_CONTENT_HASH, 0)
 }
 
-// Writes a sign draft of len bytes from the front.
+// Writes a sign draft of len bytes from the front; shown is the transaction content.
 pub fn put_signed_data(
     out: &mut [u8],
     len: usize,
@@ -86,15 +89,15 @@ pub fn put_signed_data(
     content: bool,
     nonce: &[u8],
     challenge: &[u8],
-    hash: &[u8],
+    shown: &[u8],
     key_id: &[u8],
     count: u32,
 ) -> usize
-    requires { ⌜ (length (now aaid) ≡ 9) × (length (now nonce) ≤ 32) × (length (now challenge) ≤ 32) × (length (now hash) ≡ 32) × (length (now «key_id») ≡ 32) ⌝ }
+    requires { ⌜ (length (now aaid) ≡ 9) × (length (now nonce) ≤ 32) × (length (now challenge) ≤ 32) × (length (now «key_id») ≡ 32) ⌝ }
     requires { ⌜ (len ≡ 78 + length (now challenge) + length (now nonce) + cond content 36 4) × (len ≤ length (now out)) ⌝ }
     ensures { λ r. ⌜
         Wrote (now (out .entry)) 0
-        (signedDraft content (now (aaid .entry)) numbers (now (nonce .entry)) (now (challenge .entry)) (now (hash .entry)) (now («key_id» .entry)) count)
+        (signedDraft content (now (aaid .entry)) numbers (now (nonce .entry)) (now (challenge .entry)) (sha256 (now (shown .entry))) (now («key_id» .entry)) count)
         len (now (out .exit)) r ⌝ }
 {
     let mode = if content { 0x02 } else { 0x01 };
@@ -103,7 +106,7 @@ pub fn put_signed_data(
     let a3 = put_signed_info(out, a2, numbers, mode);
     let a4 = put_tlv(out, a3, tags::NONCE, nonce);
     let a5 = put_tlv(out, a4, tags::FINAL_CHALLENGE_HASH, challenge);
-    let a6 = put_content_hash(out, a5, hash, content);
+    let a6 = put_content_hash(out, a5, shown, content);
     let a7 = put_tlv(out, a6, tags::KEYID, key_id);
     put_tlv32(out, a7, tags::COUNTERS, count as usize)
 }

@@ -7,19 +7,19 @@ use crate::reply::Shape;
 use crate::status::put_status;
 use params::kinds::Kind;
 use params::lent::Numbers;
+use params::parse::Params;
 use stored_table::records::key_of;
 use tlv::heads::Span;
 use tlv::heads::part_of;
 ghost use mathlib.Core.Path.{_≡_};
-ghost use Prim.Native.Nat.{ℕ, _-_, _≤_};
-ghost use mathlib.Core.List.{List, []};
+ghost use Prim.Native.Nat.{_-_, _≤_};
 ghost use lib.ListN.{length};
 ghost use Rattle.model.specs.Commands.{bytesOf};
 ghost use Rattle.tlv.specs.Writing.{Wrote};
 ghost use Rattle.params.specs.Kinds.{kindIs};
 ghost use Rattle.params.specs.Lent.{lentOf};
 ghost use Rattle.stored_table.specs.Stored.{Indexed, tableIn};
-ghost use Rattle.replies.specs.Replies.{answerOf, replySize, Short, Ready};
+ghost use Rattle.replies.specs.Replies.{answerOf, challengeLen, replySize, Short, Ready};
 
 // How many bytes a reply that names the records with these numbers takes, to a command whose challenge hash is this part of it.
 pub fn reply_len(
@@ -51,7 +51,7 @@ pub fn reply_len(
     }
 }
 
-// Writes a reply of len bytes, to a command of this kind whose challenge hash is that part of it, from the front of an output that is long enough.
+// Writes a reply of len bytes, to a command of this kind with these parameters, from the front of an output that is long enough.
 pub fn write_reply(
     out: &mut [u8],
     shape: Shape,
@@ -59,27 +59,26 @@ pub fn write_reply(
     len: usize,
     kind: Kind,
     command: &[u8],
-    challenge: Span,
+    params: Params,
     aaid: &[u8],
     numbers: Numbers,
     metadata: &[u8],
     key_id: &[u8],
     public_key: &[u8],
     nonce: &[u8],
-    hash: &[u8],
     table: &[u8],
     places: &[usize],
 ) -> usize
-    requires { ⌜ Ready (now command) (lentOf (now aaid) numbers (now metadata) [] (now «key_id») (now «public_key») (now nonce) (now hash)) (tableIn (now table)) challenge (now named) shape ⌝ }
+    requires { ⌜ Ready (now command) (lentOf (now aaid) numbers (now metadata) (now «key_id») (now «public_key») (now nonce)) (tableIn (now table)) params (now named) shape ⌝ }
     requires { ⌜ Indexed (now table) (now places) ⌝ }
-    requires { ⌜ (len ≡ replySize (challenge .end - challenge .start) (length (now «public_key»)) (length (now nonce)) (tableIn (now table)) (now named) shape) × (len ≤ length (now out)) ⌝ }
+    requires { ⌜ (len ≡ replySize (challengeLen params) (length (now «public_key»)) (length (now nonce)) (tableIn (now table)) (now named) shape) × (len ≤ length (now out)) ⌝ }
     ensures { λ r. ⌜
-        ((mixed : List ℕ) → Wrote (now (out .entry)) 0
+        Wrote (now (out .entry)) 0
         (bytesOf
         (answerOf (kindIs kind) (now (command .entry))
-        (lentOf (now (aaid .entry)) numbers (now (metadata .entry)) mixed (now («key_id» .entry)) (now («public_key» .entry)) (now (nonce .entry)) (now (hash .entry)))
+        (lentOf (now (aaid .entry)) numbers (now (metadata .entry)) (now («key_id» .entry)) (now («public_key» .entry)) (now (nonce .entry)))
         (tableIn (now (table .entry))) (now (named .entry)) shape))
-        len (now (out .exit)) r) ⌝ }
+        len (now (out .exit)) r ⌝ }
 {
     match shape {
         Shape::Status(status) => put_status(out, kind, status),
@@ -90,7 +89,7 @@ pub fn write_reply(
             len,
             aaid,
             numbers,
-            part_of(command, challenge),
+            part_of(command, params.challenge_hash),
             key_id,
             public_key,
         ),
@@ -105,8 +104,8 @@ pub fn write_reply(
             numbers,
             content,
             nonce,
-            part_of(command, challenge),
-            hash,
+            part_of(command, params.challenge_hash),
+            part_of(command, params.transaction_content),
             key_of(table, places[record]),
             count,
         ),

@@ -28,7 +28,8 @@ pub const VERDICT: usize = 6;
 
 pub const DISPLAY: usize = 7;
 
-pub const MIXED: usize = 8;
+// Of the hash, its two stretches.
+pub const FIRST: usize = 8;
 
 pub const KEY_ID: usize = 9;
 
@@ -36,7 +37,7 @@ pub const PUBLIC_KEY: usize = 10;
 
 pub const NONCE: usize = 11;
 
-pub const HASH: usize = 12;
+pub const SECOND: usize = 12;
 
 pub const TABLE: usize = 13;
 
@@ -92,11 +93,11 @@ pub fn slot_of(letter: u8) -> usize {
         b'm' => METADATA,
         b'u' => VERDICT,
         b'd' => DISPLAY,
-        b'x' => MIXED,
+        b'x' => FIRST,
         b'k' => KEY_ID,
         b'p' => PUBLIC_KEY,
         b'n' => NONCE,
-        b'h' => HASH,
+        b'h' => SECOND,
         b't' => TABLE,
         b'o' => RESPONSE_LENGTH,
         b'w' => TABLE_LENGTH,

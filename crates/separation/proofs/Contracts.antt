@@ -17,31 +17,30 @@ use Rattle.key_table.proofs.forms.store.Kinds as store-kinds
 use Rattle.key_table.proofs.forms.store.Reads as store-reads
 use Rattle.separation.specs.Calls.{Promised, asStored, byValue, command, run, load, store}
 
-module _ (κs : Lfts 14) (a : Dens κs command-kinds.ps) (r : resT command-kinds.r κs .Denot) (s : AtExit (endedOf 14 command-kinds.ps command-kinds.r) κs) where
+module _ (κs : Lfts 12) (a : Dens κs command-kinds.ps) (r : resT command-kinds.r κs .Denot) (s : AtExit (endedOf 12 command-kinds.ps command-kinds.r) κs) where
   pub command-promises : command-reads.Learnt κs a r s
-      → let (s₀, (aaid, (version, (signing, (keys, (metadata, (verdict, (display, (mixed, (keyId, (publicKey, (nonce, (contentHash, (table, (out, (tableOut, (answer, (n, (m, end))))))))))))))))))) = a in
-      let (_, (_, (_, (_, (_, (_, (_, (_, (_, (_, (_, (_, (_, (_, (out′, (tableOut′, (answer′, (n′, (m′, end′))))))))))))))))))) = s in
+      → let (s₀, (aaid, (version, (signing, (keys, (metadata, (verdict, (display, (keyId, (publicKey, (nonce, (table, (out, (tableOut, (answer, (n, (m, end))))))))))))))))) = a in
+      let (_, (_, (_, (_, (_, (_, (_, (_, (_, (_, (_, (_, (out′, (tableOut′, (answer′, (n′, (m′, end′))))))))))))))))) = s in
       Promised (asStored (now table))
       (command
       (record {
         command = now s₀;
         lent =
-            lentOf (now aaid) (numbersOf version signing keys verdict display) (now metadata) (now mixed) (now keyId) (now publicKey)
-            (now nonce) (now contentHash);
+            lentOf (now aaid) (numbersOf version signing keys verdict display) (now metadata) (now keyId) (now publicKey) (now nonce);
         before = gets 0 (now answer) (now n) (now m) (now out) (now tableOut);
         after = gets r (now answer′) (now n′) (now m′) (now out′) (now tableOut′);
       }))
   command-promises p = p
 
-module _ (κs : Lfts 9) (a : Dens κs run-kinds.ps) (r : resT run-kinds.r κs .Denot) (s : AtExit (endedOf 9 run-kinds.ps run-kinds.r) κs) where
+module _ (κs : Lfts 7) (a : Dens κs run-kinds.ps) (r : resT run-kinds.r κs .Denot) (s : AtExit (endedOf 7 run-kinds.ps run-kinds.r) κs) where
   pub run-promises : run-reads.Learnt κs a r s
-      → let (s₀, (aaid, (numbers, (metadata, (mixed, (keyId, (publicKey, (nonce, (contentHash, (t, (out, end))))))))))) = a in
-      let (_, (_, (_, (_, (_, (_, (_, (_, (_, (_, (out′, end′))))))))))) = s in
+      → let (s₀, (aaid, (numbers, (metadata, (keyId, (publicKey, (nonce, (t, (out, end))))))))) = a in
+      let (_, (_, (_, (_, (_, (_, (_, (_, (out′, end′))))))))) = s in
       Promised (byValue t)
       (run
       (record {
         command = now s₀;
-        lent = lentOf (now aaid) numbers (now metadata) (now mixed) (now keyId) (now publicKey) (now nonce) (now contentHash);
+        lent = lentOf (now aaid) numbers (now metadata) (now keyId) (now publicKey) (now nonce);
         before = now out;
         after = now out′;
         ran = r;

@@ -12,7 +12,7 @@ use Rattle.model.specs.Commands.{Result, refused, gave}
 use Rattle.model.specs.Traces.{Step, observe, Comparable}
 use Rattle.model.proofs.Basics.{impossible}
 use Rattle.model.proofs.Computing.{computing}
-use Rattle.examples.proofs.Conditions.{id, quiet, busy, refusing, filling, repeated, crowded, met, met-full, Needed, freshness-needed, room-needed}
+use Rattle.examples.proofs.Conditions.{owner, quiet, busy, refusing, filling, repeated, crowded, met, met-full, Needed, freshness-needed, room-needed}
 use Rattle.key_table.specs.Views.{tableValue}
 use Rattle.key_table.proofs.TidyLaws.{view-of-value}
 use Rattle.separation.specs.Calls.{Made, Held, byValue, asStored, Calls, steps, Wrote, Told, toldTo, Empty, offered}
@@ -43,9 +43,9 @@ CallsOf k ss = (ms : List Made) × Calls k ms × (steps ms ≡ ss)
 pub record MetByCalls (a b : List Step) : Type 0 where
   pub first : CallsOf noneStored a
   pub second : CallsOf noneByValue b
-  pub conditions : Comparable (id 1) (steps (first .0)) (steps (second .0))
+  pub conditions : Comparable (owner 1) (steps (first .0)) (steps (second .0))
 
-met-so : (a b : List Step) → all offered a ≡ true → all offered b ≡ true → Comparable (id 1) a b → MetByCalls a b
+met-so : (a b : List Step) → all offered a ≡ true → all offered b ≡ true → Comparable (owner 1) a b → MetByCalls a b
 met-so a b oa ob c =
     let p = every-trace noneStored empty-stored a oa in
     let q = every-trace noneByValue empty-by-value b ob in
@@ -72,15 +72,15 @@ first-map f [] = refl
 first-map f (x ∷ xs) = refl
 
 -- what is told first, by what the trace says
-told-first : (k : Held) (ss : List Step) → Empty k → (c : CallsOf k ss) → first (toldTo (id 1) k (c .0)) ≡ Option·map seenAs (first (observe (id 1) ss []))
-told-first k ss e (ms, c, q) = rw (calls-are (id 1) k ms [] e c .seen, q) (first-map seenAs (observe (id 1) ss []))
+told-first : (k : Held) (ss : List Step) → Empty k → (c : CallsOf k ss) → first (toldTo (owner 1) k (c .0)) ≡ Option·map seenAs (first (observe (owner 1) ss []))
+told-first k ss e (ms, c, q) = rw (calls-are (owner 1) k ms [] e c .seen, q) (first-map seenAs (observe (owner 1) ss []))
 
 -- all that `Needed` says of the trace, and calls that are it
 pub record NeededByCalls (ss : List Step) (fresh-is roomy-is : Bool) (status-is : ℕ) : Type 0 where
   pub needed : Needed ss fresh-is roomy-is status-is
   pub quietly : CallsOf noneStored quiet
   pub so : CallsOf noneStored ss
-  pub differ : toldTo (id 1) noneStored (quietly .0) ≡ toldTo (id 1) noneStored (so .0) → ⊥
+  pub differ : toldTo (owner 1) noneStored (quietly .0) ≡ toldTo (owner 1) noneStored (so .0) → ⊥
 
 needed-by-calls : (ss : List Step) (f r : Bool) (n : ℕ) → all offered ss ≡ true → Needed ss f r n → NeededByCalls ss f r n
 needed-by-calls ss f r n o w =
@@ -92,7 +92,7 @@ needed-by-calls ss f r n o w =
       so = b;
       differ = λ e.
           let i = sym (told-first noneStored quiet empty-stored q) ∙ ap first e ∙ told-first noneStored ss empty-stored b in
-          let j : Option·map numberOf (Option·map seenAs (first (observe (id 1) quiet []))) ≡ Option·map numberOf (Option·map seenAs (first (observe (id 1) ss []))) = ap (Option·map numberOf) i in
+          let j : Option·map numberOf (Option·map seenAs (first (observe (owner 1) quiet []))) ≡ Option·map numberOf (Option·map seenAs (first (observe (owner 1) ss []))) = ap (Option·map numberOf) i in
           let k : _≡_ {A = Option ℕ} (some 1) (some 0) = rw (w .answer-a, w .answer-b) at j in
           impossible cc;
     }

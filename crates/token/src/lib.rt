@@ -1,4 +1,5 @@
 // The exported entries: numbers and byte stretches only.
+pub mod hashes;
 pub mod responses;
 mod told;
 pub mod writers;
@@ -35,11 +36,9 @@ pub extern "C" fn uaf_command(
     metadata: &[u8],
     verdict: u32,
     display: u32,
-    mixed: &[u8],
     key_id: &[u8],
     public_key: &[u8],
     nonce: &[u8],
-    hash: &[u8],
     table: &[u8],
     response: &mut [u8],
     table_out: &mut [u8],
@@ -53,7 +52,7 @@ pub extern "C" fn uaf_command(
         (outcome
         (call (now (command .entry))
         (lentOf (now (aaid .entry)) (numbersOf version «signature_algorithm» «key_algorithm» verdict display) (now (metadata .entry))
-        (now (mixed .entry)) (now («key_id» .entry)) (now («public_key» .entry)) (now (nonce .entry)) (now (hash .entry)))
+        (now («key_id» .entry)) (now («public_key» .entry)) (now (nonce .entry)))
         (length (now (response .entry))) (some (length (now («table_out» .entry)))))
         (stored (now (table .entry))))
         (gets 0 (now (answer .entry)) (now («response_len» .entry)) (now («table_len» .entry)) (now (response .entry)) (now («table_out» .entry))) ⌝ }
@@ -70,11 +69,9 @@ pub extern "C" fn uaf_command(
         aaid,
         numbers,
         metadata,
-        mixed,
         key_id,
         public_key,
         nonce,
-        hash,
         table,
         response,
         table_out,

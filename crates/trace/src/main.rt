@@ -1,6 +1,6 @@
 // Runs the calls of a script on the C entries, or on a table by value, and writes what each gives. A line of the script is a letter, a space
 // and bytes in hexadecimal, which sets an argument until it is set again; '!', a space and a name run a command, and '?' does so and writes
-// the table left; '&' and '@' do the same by value; '=' completes a draft; '<' reads a response, and '^' changes a byte of it; '+' writes a command.
+// the table left; '&' and '@' do the same by value; '=' completes a draft; '<' reads a response, and '^' changes a byte of it; '+' writes a command; '%' hashes.
 // Other lines are comments. After a command that is not refused the table left is the table of the next, whichever its form; a completed response is
 // the next one read, and a written command the next one run.
 use script::slots::MOST;
@@ -11,6 +11,7 @@ use script::slots::slot_of;
 use script::slots::store;
 use script::text::read_hex;
 use tlv::numbers::get16;
+use trace_commands::hashes::hash;
 use trace_commands::run;
 use trace_responses::complete;
 use trace_responses::read;
@@ -52,6 +53,7 @@ fn obey(line: &[u8], mem: &mut [u8]) {
         b'<' => read(rest, mem),
         b'^' => change(rest, mem),
         b'+' => write(rest, mem),
+        b'%' => hash(rest, mem),
         _ => set(rest, slot_of(letter), mem),
     }
 }

@@ -1,4 +1,6 @@
-// Calls from the arguments in the slots, and the line that says what each gave: of `uaf_command` here, on a table by value in `values`.
+// Calls from the arguments in the slots, and the line that says what each gave: of `uaf_command` here, on a table by value in `values`, of `uaf_hash` in
+// `hashes`.
+pub mod hashes;
 mod values;
 
 use crate::values::run_by_value;
@@ -7,11 +9,9 @@ use script::slots::AAID;
 use script::slots::COMMAND;
 use script::slots::DISPLAY;
 use script::slots::FILL;
-use script::slots::HASH;
 use script::slots::KEY_ALGORITHM;
 use script::slots::KEY_ID;
 use script::slots::METADATA;
-use script::slots::MIXED;
 use script::slots::MOST;
 use script::slots::NO_ANSWER;
 use script::slots::NONCE;
@@ -65,11 +65,9 @@ fn call(mem: &[u8], response: &mut [u8], table_out: &mut [u8]) -> Given {
         arg(mem, METADATA),
         numbers.verdict,
         numbers.display,
-        arg(mem, MIXED),
         arg(mem, KEY_ID),
         arg(mem, PUBLIC_KEY),
         arg(mem, NONCE),
-        arg(mem, HASH),
         arg(mem, TABLE),
         response,
         table_out,

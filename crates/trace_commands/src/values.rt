@@ -16,10 +16,8 @@ use key_table::records::Table;
 use script::slots;
 use script::slots::AAID;
 use script::slots::COMMAND;
-use script::slots::HASH;
 use script::slots::KEY_ID;
 use script::slots::METADATA;
-use script::slots::MIXED;
 use script::slots::NONCE;
 use script::slots::PUBLIC_KEY;
 use script::slots::SPOILT;
@@ -111,11 +109,9 @@ fn call(mem: &[u8], t: Table, response: &mut [u8]) -> Ran {
         arg(mem, AAID),
         numbers_in(mem),
         arg(mem, METADATA),
-        arg(mem, MIXED),
         arg(mem, KEY_ID),
         arg(mem, PUBLIC_KEY),
         arg(mem, NONCE),
-        arg(mem, HASH),
         t,
         response,
     )

@@ -3,7 +3,7 @@
     report.py BENCH ARCHIVE [OUTPUT [ROWS]]
 
 OUTPUT gets what is printed, ROWS a row for every case. Times are those that BENCH prints. Instructions are callgrind's, of the second of two calls:
-those of the entry and of all that it calls."""
+those of the entry and of all that it calls. The hash stands beside mbedTLS's too."""
 
 import csv
 import re
@@ -13,10 +13,12 @@ import tempfile
 
 SIDES = {"token": "uaf_", "peer": "peer_"}
 WRITERS = ("write_get_info", "write_register", "write_sign", "write_deregister", "write_open_settings")
-ENTRIES = ("command", "complete", "signed_part", "read_fields", *WRITERS)
+ENTRIES = ("command", "complete", "signed_part", "read_fields", "hash", *WRITERS)
+# What mbedTLS has one function for.
+MBEDTLS, MBEDTLS_HASH = "mbedtls", "mbedtls_sha256"
 # The kinds of entries, as the stack and the worst ratio are told of each.
-COMMAND, READER, WRITER = "a command", "completion and reader", "a writer"
-GROUPS = (COMMAND, READER, WRITER)
+COMMAND, READER, WRITER, HASH = "a command", "completion and reader", "a writer", "the hash"
+GROUPS = (COMMAND, READER, WRITER, HASH)
 # How the name of a case ends that is a command on a table, and what heads the column of that kind.
 KINDS = {"": "random, 12", ", long names": "random, 128", ", alike": "alike, 12", ", alike, long names": "alike, 128"}
 TEXTS = ("latin", "cyrillic", "kana", "mixed")
@@ -25,6 +27,10 @@ ON_TABLE = re.compile(rf"(.*), (\d+) records?({'|'.join([*KINDS, *NAMED])})$")
 # The case whose KeyIDs and mixed tokens someone would have to choose. It is told beside the worst ratio and not counted in it.
 CHOSEN = "GetInfo: 32 records, sums alike"
 FIGURES = ["token ns", "peer ns", "token / peer", "floor ns", "token instructions", "peer instructions"]
+HASH_FIGURES = ["token ns", "peer ns", "mbedTLS ns", "token / peer", "token / mbedTLS"]
+HASH_FIGURES += ["token instructions", "peer instructions", "mbedTLS instructions"]
+# The instructions that a processor has for SHA-256; what uses none of them has to do without.
+SHA_INSTRUCTION = re.compile(r"\bsha256(rnds2|msg1|msg2)\b")
 
 
 def lines(*command):
@@ -36,8 +42,10 @@ def table(bench, *arguments):
 
 
 def instructions(bench, side):
-    """The count of every case. Callgrind writes a part each time that `counted` is left, which is twice for a case, and one at the end."""
-    entries = [f"--toggle-collect={SIDES[side]}{entry}" for entry in ENTRIES]
+    """The count of every case, mbedTLS's of the hashes. Callgrind writes a part each time that `counted` is left, which is twice for a case, and one at
+    the end."""
+    names = [MBEDTLS_HASH] if side == MBEDTLS else [SIDES[side] + entry for entry in ENTRIES]
+    entries = [f"--toggle-collect={name}" for name in names]
     with tempfile.NamedTemporaryFile("r") as out:
         parts = [f"--callgrind-out-file={out.name}", "--combine-dumps=yes", "--dump-after=counted"]
         lines("valgrind", "-q", "--tool=callgrind", *parts, *entries, bench, "calls", side)
@@ -56,16 +64,24 @@ class Row:
         self.instructions = dict(zip(SIDES, counts))
         self.on_table = ON_TABLE.match(self.case)
         self.group = self.group_of()
+        if self.group == HASH:
+            self.ns[MBEDTLS], self.mbedtls_ratio = float(times["mbedtls ns"]), float(times["token / mbedtls"])
 
     def group_of(self):
-        if self.on_table or self.case.startswith(("refused:", "Register:", CHOSEN)):
+        if self.on_table or self.case.startswith(("refused:", "Register:", "Sign:", CHOSEN)):
             return COMMAND
+        if self.case.startswith("hash:"):
+            return HASH
         return WRITER if self.case.startswith("write:") else READER
 
     def figures(self):
         floor = nanoseconds(self.floor) if self.floor else "–"
+        counts = [f"{self.instructions[side]:,}" for side in SIDES]
+        return [*(nanoseconds(self.ns[side]) for side in SIDES), f"{self.ratio:.2f}", floor, *counts]
+
+    def hash_figures(self):
         counts = [f"{count:,}" for count in self.instructions.values()]
-        return [*map(nanoseconds, self.ns.values()), f"{self.ratio:.2f}", floor, *counts]
+        return [*map(nanoseconds, self.ns.values()), f"{self.ratio:.2f}", f"{self.mbedtls_ratio:.2f}", *counts]
 
 
 def nanoseconds(time):
@@ -78,7 +94,14 @@ def measured(bench):
     counts = [instructions(bench, side) for side in SIDES]
     if any(len(count) != len(times) for count in counts):
         sys.exit("callgrind's parts are not two to a case")
-    return [Row(*figures) for figures in zip(times, *counts)]
+    rows = [Row(*figures) for figures in zip(times, *counts)]
+    hashes = [row for row in rows if row.group == HASH]
+    beside = instructions(bench, MBEDTLS)
+    if len(beside) != len(hashes):
+        sys.exit("callgrind's parts are not two to a hash of mbedTLS's")
+    for row, count in zip(hashes, beside):
+        row.instructions[MBEDTLS] = count
+    return rows
 
 
 def markdown(head, rows):
@@ -88,6 +111,10 @@ def markdown(head, rows):
 
 def listed(rows):
     return markdown(["case", *FIGURES], [[row.case, *row.figures()] for row in rows])
+
+
+def hashes(rows):
+    return markdown(["case", *HASH_FIGURES], [[row.case, *row.hash_figures()] for row in rows if row.group == HASH])
 
 
 def by_size(rows):
@@ -136,8 +163,10 @@ def stack(bench, rows):
     cells = []
     for group in GROUPS:
         meant = [depth for row, depth in depths if row.group == group]
-        cells.append([f"{group}, at most", *(f"{max(int(depth[f'{side} bytes']) for depth in meant):,}" for side in SIDES)])
-    return markdown(["stack, bytes", *SIDES], cells)
+        sides = [*SIDES, MBEDTLS] if group == HASH else SIDES
+        most = [f"{max(int(depth[f'{side} bytes']) for depth in meant):,}" for side in sides]
+        cells.append([f"{group}, at most", *most, *([] if group == HASH else [""])])
+    return markdown(["stack, bytes", *SIDES, "mbedTLS"], cells)
 
 
 def worst_of(rows):
@@ -149,10 +178,17 @@ def worst_by_group(rows):
     return markdown(["worst ratio", "token / peer", "case"], [[row.group, f"{row.ratio:.2f}", row.case] for row in worst])
 
 
-def machine():
+def machine(bench):
     with open("/proc/cpuinfo", encoding="utf-8") as processors:
         model = re.search(r"^model name\s*: (.*)", processors.read(), re.MULTILINE)
-    return f"Processor: {model.group(1) if model else 'unknown'}. The peer's compiler: {lines('rustc', '--version')[0]}."
+    [mbedtls] = lines(bench, "version")
+    return f"Processor: {model.group(1) if model else 'unknown'}. The peer's compiler: {lines('rustc', '--version')[0]}. The hash beside: {mbedtls}."
+
+
+def sha_instructions(bench):
+    """Whether the benchmark's program, which has token, peer and mbedTLS in it, has instructions for SHA-256 anywhere."""
+    found = sum(bool(SHA_INSTRUCTION.search(line)) for line in lines("objdump", "-d", "--no-show-raw-insn", bench))
+    return f"instructions made for SHA-256 in the program: {found}" if found else "none of the three has an instruction made for SHA-256"
 
 
 def text_size(archive):
@@ -160,7 +196,7 @@ def text_size(archive):
 
 
 def report(bench, archive, rows):
-    yield machine()
+    yield machine(bench)
     yield ""
     yield "Commands, with KeyIDs and mixed tokens that are random and names of 12 bytes; in the last columns the ratio where they are otherwise:"
     yield ""
@@ -170,13 +206,17 @@ def report(bench, archive, rows):
     yield ""
     yield from texts(rows)
     yield ""
-    yield "A command on KeyIDs and mixed tokens of one sum, a Register whose name is cut, refused commands, completion and reader:"
+    yield "A command on KeyIDs and mixed tokens of one sum, a Register whose name is cut, commands with much to hash, refused commands, completion and reader:"
     yield ""
-    yield from listed([row for row in rows if not row.on_table and row.group != WRITER])
+    yield from listed([row for row in rows if not row.on_table and row.group not in (WRITER, HASH)])
     yield ""
     yield "The writers of commands:"
     yield ""
     yield from listed([row for row in rows if row.group == WRITER])
+    yield ""
+    yield f"The hash; {sha_instructions(bench)}:"
+    yield ""
+    yield from hashes(rows)
     yield ""
     yield from dearer(rows)
     yield ""
@@ -189,6 +229,9 @@ def report(bench, archive, rows):
     yield ""
     worst = worst_of(counted)
     [chosen] = [row for row in rows if row.case == CHOSEN]
+    beside = max((row for row in rows if row.group == HASH), key=lambda row: row.mbedtls_ratio)
+    yield f"Worst ratio to mbedTLS: {beside.mbedtls_ratio:.2f} ({beside.case})."
+    yield ""
     yield f"Worst ratio: {worst.ratio:.2f} ({worst.case}); of KeyIDs and mixed tokens chosen to have one sum: {chosen.ratio:.2f}."
 
 

@@ -1,7 +1,8 @@
 """The header's declarations and constants against the source's: declared.py HEADER CRATES
 
 Each exported function of the Rattle source must be declared in the header, and no other, with the parameters that its own stand for, in their
-order and with their names: a slice of bytes is a pointer and a size, one of lengths a pointer and a count, a number lent to be written a pointer.
+order and with their names: a slice of bytes is a pointer and a size, one of lengths a pointer and a count, a number lent to be written a pointer,
+an array lent to be written one of as many elements; a function that gives nothing is void.
 The header's lists of tags and of statuses must have the names and numbers of the source's, and no others; its refusals and those of its limits that
 the source names, the same numbers."""
 
@@ -22,8 +23,8 @@ LIMITS = {
 NUMBERS = {"u8": "uint8_t", "u16": "uint16_t", "u32": "uint32_t", "usize": "size_t"}
 
 
-def in_c(name, kind):
-    """A parameter of the source as C declares it."""
+def in_c(name, kind, numbers):
+    """A parameter of the source as C declares it, with the number of an array's elements; a constant's is among `numbers`."""
     name = re.sub("_len$", "_length", name)
     if kind == "&[u8]":
         return [f"const uint8_t *{name}", f"size_t {name}_size"]
@@ -31,8 +32,8 @@ def in_c(name, kind):
         return [f"uint8_t *{name}", f"size_t {name}_size"]
     if kind == "&[usize]" and name.endswith("_sizes"):
         return [f"const size_t *{name}", f"size_t {name.removesuffix('_sizes')}_count"]
-    if rows := re.fullmatch(r"&mut \[usize; (\w+)\]", kind):
-        return [f"size_t {name}[UAF_{rows[1]}]"]
+    if array := re.fullmatch(r"&mut \[(\w+); (\w+)\]", kind):
+        return [f"{NUMBERS[array[1]]} {name}[{numbers.get(array[2], array[2])}]"]
     if number := re.fullmatch(r"&mut (\w+)", kind):
         return [f"{NUMBERS[number[1]]} *{name}"]
     return [f"{NUMBERS[kind]} {name}"]
@@ -42,13 +43,15 @@ def split(parameters):
     return [" ".join(p.split()) for p in parameters.split(",") if p.strip()]
 
 
-def exported(source):
-    for match in re.finditer(r'#\[no_mangle\]\s*pub extern "C" fn (\w+)\((.*?)\)\s*->\s*(\w+)', source, re.S):
-        yield match[1], (NUMBERS[match[3]], [c for p in split(match[2]) for c in in_c(*p.split(": ", 1))])
+def exported(source, numbers):
+    for match in re.finditer(r'#\[no_mangle\]\s*pub extern "C" fn (\w+)\((.*?)\)(?:\s*->\s*(\w+))?', source, re.S):
+        gives = NUMBERS[match[3]] if match[3] else "void"
+        yield match[1], (gives, [c for p in split(match[2]) for c in in_c(*p.split(": ", 1), numbers)])
 
 
-def declared(header):
+def declared(header, numbers):
     text = re.sub(r"/\*.*?\*/", "", header, flags=re.S)
+    text = re.sub(r"\[UAF_(\w+)\]", lambda size: f"[{numbers.get(size[1], size[1])}]", text)
     for match in re.finditer(r"^(\w+) (\w+)\((.*?)\);", text, re.M | re.S):
         yield match[2], (match[1], split(match[3]))
 
@@ -84,17 +87,18 @@ def compare(what, here, there):
 def main(header, crates):
     header = pathlib.Path(header).read_text(encoding="utf-8")
     source = {path.relative_to(crates).as_posix(): path.read_text(encoding="utf-8") for path in pathlib.Path(crates).glob("*/src/*.rt")}
+    numbers = {path: constants(text) for path, text in source.items()}
+    known = {name: number for names in numbers.values() for name, number in names.items()}
     functions = {}
     for path, text in source.items():
         if path.startswith("token/"):
-            functions.update(exported(text))
-    numbers = {path: constants(text) for path, text in source.items()}
+            functions.update(exported(text, known))
     refusals = numbers.get("fields/src/refusals.rt", {})
     bounds, named = {}, limits(header)
     for path, names in LIMITS.items():
         bounds.update(renamed(numbers.get(path, {}), names))
     return max(
-        compare("declarations", dict(declared(header)), functions),
+        compare("declarations", dict(declared(header, named)), functions),
         compare("tags", listed(header, "UAF_TAGS"), numbers.get("fields/src/tags.rt", {})),
         compare("statuses", listed(header, "UAF_STATUSES"), numbers.get("replies/src/status.rt", {})),
         compare("refusals", listed(header, "UAF_REFUSALS"), {REFUSALS.get(name, name): n for name, n in refusals.items()}),

@@ -2,7 +2,8 @@
  * that is missing, too many, of another width or in another place shows; and the header's constants and names against the papers. Compiled as
  * C11 and as C++17.
  *
- * What is expected is put together here, field by field, from document 01. */
+ * What is expected is put together here, field by field, from document 01. Hashes are expected as they were published or as another SHA-256 gave
+ * them; where uaf_hash has been held against these, it gives the rest. */
 #include <stdio.h>
 #include <stdlib.h>
 #include <string.h>
@@ -62,9 +63,29 @@ static int same(const struct bytes *b, const uint8_t *at, size_t length)
     return b->length == length && memcmp(b->at, at, length) == 0;
 }
 
+/* ---- who calls, and what is hashed of it */
+
+#define EIGHT(byte) byte, byte, byte, byte, byte, byte, byte, byte
+#define THIRTY_TWO(byte) EIGHT(byte), EIGHT(byte), EIGHT(byte), EIGHT(byte)
+
+/* The access token and the content of the tests, and an AppID for those that give one. */
+static const uint8_t access_token[UAF_ACCESS_TOKEN_SIZE] = {THIRTY_TWO(0xAA)};
+static const char firm[] = "https://a.example", dividend[] = "7.40 to 3";
+
+/* Their hashes, from another SHA-256: of the access token, of the access token followed by the AppID, and of the content. */
+static const uint8_t mixed[UAF_MIXED_SIZE] = {
+    0xE0, 0xE7, 0x7A, 0x50, 0x74, 0x12, 0xB1, 0x20, 0xF6, 0xED, 0xE6, 0x1F, 0x62, 0x29, 0x5B, 0x1A,
+    0x7B, 0x2F, 0xF1, 0x9D, 0x3D, 0xCC, 0x8F, 0x72, 0x53, 0xE5, 0x16, 0x63, 0x47, 0x0C, 0x88, 0x8E};
+static const uint8_t mixed_with_firm[UAF_MIXED_SIZE] = {
+    0xA7, 0x44, 0xA4, 0xAF, 0xDC, 0x00, 0x47, 0x66, 0x55, 0xEC, 0xCC, 0x6D, 0x63, 0x93, 0x4B, 0x77,
+    0xA8, 0x44, 0x1C, 0x41, 0x2B, 0x0D, 0x0A, 0xB0, 0xA8, 0x1F, 0x82, 0x4E, 0x9C, 0x15, 0xA8, 0xFA};
+static const uint8_t dividend_hash[UAF_HASH_SIZE] = {
+    0xC8, 0xAA, 0x61, 0x10, 0x64, 0x75, 0xE8, 0x28, 0xEF, 0x9A, 0xE9, 0xB9, 0xB0, 0xC1, 0xD1, 0x9F,
+    0xBA, 0x37, 0x37, 0xD4, 0x0D, 0xF5, 0x82, 0x05, 0x91, 0x76, 0xD6, 0x34, 0xCE, 0xEF, 0x09, 0x16};
+
 /* ---- what the caller lends: each different from each */
 
-static uint8_t aaid[9], metadata[15], mixed[32], key_id[32], public_key[65], nonce[17], hash[32], challenge[20], certificate[33], signature[71];
+static uint8_t aaid[9], metadata[15], key_id[32], public_key[65], nonce[17], challenge[20], certificate[33], signature[71];
 static const uint8_t zero = 0;
 static const char ann[] = "Ann";
 
@@ -75,11 +96,9 @@ static const struct {
 } stretches[] = {
     {aaid, sizeof aaid, 0x10},
     {metadata, sizeof metadata, 0x20},
-    {mixed, sizeof mixed, 0x30},
     {key_id, sizeof key_id, 0x60},
     {public_key, sizeof public_key, 0x80},
     {nonce, sizeof nonce, 0x03},
-    {hash, sizeof hash, 0xC0},
     {challenge, sizeof challenge, 0xE0},
     {certificate, sizeof certificate, 0x55},
     {signature, sizeof signature, 0x77},
@@ -152,9 +171,8 @@ static uint32_t call_with(const struct bytes *command, const struct numbers *n, 
     fill_outputs();
     return uaf_command(
         command->at, command->length, aaid, sizeof aaid, n->at[VERSION], n->at[SIGNATURE_ALGORITHM], n->at[KEY_ALGORITHM], metadata,
-        sizeof metadata, n->at[VERDICT], n->at[DISPLAY], mixed, sizeof mixed, key_id, sizeof key_id, public_key, sizeof public_key, nonce,
-        sizeof nonce, hash, sizeof hash, table->at, table->length, response, sizeof response, table_out, sizeof table_out, &answer,
-        &response_length, &table_length);
+        sizeof metadata, n->at[VERDICT], n->at[DISPLAY], key_id, sizeof key_id, public_key, sizeof public_key, nonce, sizeof nonce, table->at,
+        table->length, response, sizeof response, table_out, sizeof table_out, &answer, &response_length, &table_length);
 }
 
 static uint32_t call(const struct bytes *command, uint32_t verdict, uint32_t display, const struct bytes *table)
@@ -193,16 +211,22 @@ static int says(const struct bytes *command, uint32_t verdict, uint32_t display,
     return call(command, verdict, display, table) == 0 && wrote(UAF_RESPONSE, &expected, table);
 }
 
-static void add_record(struct bytes *table, const uint8_t *key, const char *username, unsigned count)
+static void add_record_of(struct bytes *table, const uint8_t *holder, const uint8_t *key, const char *username, unsigned count)
 {
     struct bytes inner = {{0}, 0};
     tlv(&inner, 0x2E09, key, UAF_KEY_ID_SIZE);
-    tlv(&inner, 0x2805, mixed, sizeof mixed);
+    tlv(&inner, 0x2805, holder, UAF_MIXED_SIZE);
     letters(&inner, 0x2806, username);
     number(&inner, 0x2E0D, 2);
     number(&inner, 4, 2);
     number(&inner, count, 4);
     holding(table, 0x3802, &inner);
+}
+
+/* The caller's, who gives no AppID. */
+static void add_record(struct bytes *table, const uint8_t *key, const char *username, unsigned count)
+{
+    add_record_of(table, mixed, key, username, count);
 }
 
 static void stored_record(struct bytes *table, unsigned count)
@@ -227,7 +251,7 @@ static void stored_records(struct bytes *table, unsigned number_of)
 /* With a username they are a Register's. */
 static void children_of(struct bytes *children, const char *username, const char *content)
 {
-    static const uint8_t access_token[] = {0xAA}, full[] = {0x07, 0x3E};
+    static const uint8_t full[] = {0x07, 0x3E};
     children->length = 0;
     tlv(children, 0x280D, &zero, 1);
     tlv(children, 0x2E0A, challenge, sizeof challenge);
@@ -237,7 +261,7 @@ static void children_of(struct bytes *children, const char *username, const char
     } else if (content != NULL) {
         letters(children, 0x2810, content);
     }
-    tlv(children, 0x2805, access_token, 1);
+    tlv(children, 0x2805, access_token, sizeof access_token);
 }
 
 static void get_info(void)
@@ -264,7 +288,7 @@ static void get_info(void)
     expect(
         uaf_command(
             command.at, command.length, aaid, sizeof aaid, 1, 2, 3, metadata, sizeof metadata, 255, 255,
-            NULL, 0, NULL, 0, NULL, 0, NULL, 0, NULL, 0, NULL, 0, response, sizeof response, table_out, sizeof table_out, &answer,
+            NULL, 0, NULL, 0, NULL, 0, NULL, 0, response, sizeof response, table_out, sizeof table_out, &answer,
             &response_length, &table_length) == 0,
         "GetInfo with NULL for what is empty is refused");
     expect(wrote(UAF_RESPONSE, &expected, &none), "GetInfo with NULL for what is empty");
@@ -309,23 +333,24 @@ static void registers(void)
     expect(says(&command, UAF_VERIFIED, UAF_SHOWN_CONFIRMED, &table, 0x3602, UAF_STATUS_ERR_UNKNOWN), "Register: the table");
     stored_records(&table, UAF_MOST_OWN);
     expect(says(&command, UAF_VERIFIED, UAF_SHOWN_CONFIRMED, &table, 0x3602, UAF_STATUS_INSUFFICIENT_RESOURCES), "Register: a ninth record");
-    command.at[command.length - 7] = 0; /* the attestation type's second byte */
+    command.at[command.length - sizeof access_token - 4 - 1] = 0; /* the attestation type's second byte */
     expect(says(&command, UAF_VERIFIED, UAF_SHOWN_CONFIRMED, &none, 0x3602, UAF_STATUS_ATTESTATION_NOT_SUPPORTED), "Register: the type");
     command.length--;
     expect(says(&command, UAF_VERIFIED, UAF_SHOWN_CONFIRMED, &none, 0x3602, UAF_STATUS_PARAMS_INVALID), "Register: cut short");
 }
 
-static void signed_data(struct bytes *draft, const struct numbers *n, unsigned count)
+/* With the hash of content, or NULL where there is none. */
+static void signed_data(struct bytes *draft, const struct numbers *n, const uint8_t *hash, unsigned count)
 {
     struct bytes inner = {{0}, 0}, info = {{0}, 0};
     number(&info, n->at[VERSION], 2);
-    number(&info, 0x02, 1);
+    number(&info, hash != NULL ? 0x02 : 0x01, 1);
     number(&info, n->at[SIGNATURE_ALGORITHM], 2);
     tlv(&inner, 0x2E0B, aaid, sizeof aaid);
     holding(&inner, 0x2E0E, &info);
     tlv(&inner, 0x2E0F, nonce, sizeof nonce);
     tlv(&inner, 0x2E0A, challenge, sizeof challenge);
-    tlv(&inner, 0x2E10, hash, sizeof hash);
+    tlv(&inner, 0x2E10, hash, hash != NULL ? UAF_HASH_SIZE : 0);
     tlv(&inner, 0x2E09, key_id, sizeof key_id);
     number(&inner, 0x2E0D, 2);
     number(&inner, 4, 2);
@@ -338,9 +363,9 @@ static void signs(void)
 {
     struct bytes children = {{0}, 0}, command = {{0}, 0}, table = {{0}, 0}, left = {{0}, 0}, draft = {{0}, 0};
     const struct numbers n = usual(UAF_VERIFIED, UAF_SHOWN_CONFIRMED);
-    children_of(&children, NULL, "7.40 to 3");
+    children_of(&children, NULL, dividend);
     command_of(&command, 0x3403, &children);
-    signed_data(&draft, &n, 0x01020305);
+    signed_data(&draft, &n, dividend_hash, 0x01020305);
     stored_record(&table, 0x01020304);
     stored_record(&left, 0x01020305);
     expect(call(&command, UAF_VERIFIED, UAF_SHOWN_CONFIRMED, &table) == 0, "Sign is refused");
@@ -353,17 +378,25 @@ static void signs(void)
         UAF_STATUS_USER_CANCELLED, UAF_STATUS_CANNOT_RENDER_TRANSACTION_CONTENT, UAF_STATUS_USER_NOT_RESPONSIVE};
     for (size_t i = 0; i < sizeof results / sizeof *results; i++)
         expect(says(&command, UAF_VERIFIED, results[i], &table, 0x3603, statuses[i]), "Sign: the display");
+
+    /* no content, and content of no bytes: nothing is hashed, and the display is not asked */
+    signed_data(&draft, &n, NULL, 0x01020305);
+    for (int empty = 0; empty < 2; empty++) {
+        children_of(&children, NULL, empty ? "" : NULL);
+        command_of(&command, 0x3403, &children);
+        expect(call(&command, UAF_VERIFIED, UAF_SHOWN_NO_REPLY, &table) == 0 && wrote(UAF_DRAFT, &draft, &left), "Sign without content");
+    }
 }
 
 static void deregisters_and_settings(void)
 {
     struct bytes children = {{0}, 0}, command = {{0}, 0}, table = {{0}, 0}, none = {{0}, 0}, expected = {{0}, 0};
-    static const uint8_t access_token[] = {0xAA}, stranger[UAF_KEY_ID_SIZE] = {0};
+    static const uint8_t stranger[UAF_KEY_ID_SIZE] = {0};
     stored_record(&table, 7);
     tlv(&children, 0x280D, &zero, 1);
     command_of(&command, 0x3406, &children);
     expect(says(&command, 0, 0, &table, 0x3606, UAF_STATUS_CMD_NOT_SUPPORTED), "Open settings");
-    tlv(&children, 0x2805, access_token, 1);
+    tlv(&children, 0x2805, access_token, sizeof access_token);
     tlv(&children, 0x2E09, stranger, sizeof stranger);
     command_of(&command, 0x3404, &children);
     expect(says(&command, 0, 0, &table, 0x3604, UAF_STATUS_ACCESS_DENIED), "Deregister: another KeyID");
@@ -371,7 +404,7 @@ static void deregisters_and_settings(void)
     stretch(&children, key_id, sizeof key_id);
     command_of(&command, 0x3404, &children);
     status_only(&expected, 0x3604, UAF_STATUS_OK);
-    expect(call(&command, 0, 0, &table) == 0 && wrote(UAF_RESPONSE, &expected, &none), "Deregister: the mixed token");
+    expect(call(&command, 0, 0, &table) == 0 && wrote(UAF_RESPONSE, &expected, &none), "Deregister: the KeyID");
 }
 
 /* Each refusal of a command, and that it leaves everything as it was. */
@@ -386,7 +419,7 @@ static void refusals(void)
         expect(
             uaf_command(
                 command.at, command.length, aaid, sizeof aaid, 1, 2, 3, metadata, sizeof metadata, 0, 0,
-                mixed, sizeof mixed, key_id, sizeof key_id, public_key, sizeof public_key, nonce, sizeof nonce, hash, sizeof hash, NULL, 0,
+                key_id, sizeof key_id, public_key, sizeof public_key, nonce, sizeof nonce, NULL, 0,
                 response, shorter ? UAF_LEAST_RESPONSE - 1 : UAF_LEAST_RESPONSE, table_out, shorter ? UAF_LEAST_TABLE : UAF_LEAST_TABLE - 1,
                 &answer, &response_length, &table_length) == UAF_REFUSED_OUTPUT,
             "a short output is not refused");
@@ -398,38 +431,10 @@ static void refusals(void)
     expect(
         uaf_command(
             command.at, command.length, aaid, sizeof aaid - 1, 1, 2, 3, metadata, sizeof metadata, 0, 0,
-            NULL, 0, NULL, 0, NULL, 0, NULL, 0, NULL, 0, NULL, 0, response, sizeof response, table_out, sizeof table_out, &answer,
+            NULL, 0, NULL, 0, NULL, 0, NULL, 0, response, sizeof response, table_out, sizeof table_out, &answer,
             &response_length, &table_length) == UAF_REFUSED_LENT
             && all_untouched(),
         "a short AAID");
-}
-
-/* Each stretch of uaf_command, one at a time, as NULL and 0: a good empty table, or the refusal that this length has. */
-static void empty_stretches(void)
-{
-    enum { COMMAND, AAID, METADATA, MIXED, KEY_ID, PUBLIC_KEY, NONCE, HASH, TABLE, RESPONSE, TABLE_OUT, STRETCHES_OF_COMMAND };
-    static const uint32_t refusals_of[2][STRETCHES_OF_COMMAND] = {
-        {3, 4, 4, 4, 0, 0, 4, 4, 0, 1, 1}, /* Sign */
-        {3, 4, 4, 4, 4, 4, 0, 0, 0, 1, 1}, /* Register */
-    };
-    for (int registering = 0; registering < 2; registering++) {
-        struct bytes children = {{0}, 0}, command = {{0}, 0}, table = {{0}, 0};
-        children_of(&children, registering ? ann : NULL, NULL);
-        command_of(&command, registering ? 0x3402 : 0x3403, &children);
-        stored_records(&table, 1);
-        for (int none = 0; none < STRETCHES_OF_COMMAND; none++) {
-#define LENT(which, at, size) none == which ? NULL : (at), none == which ? 0 : (size)
-            fill_outputs();
-            uint32_t refusal = uaf_command(
-                LENT(COMMAND, command.at, command.length), LENT(AAID, aaid, sizeof aaid), 1, 2, 3, LENT(METADATA, metadata, sizeof metadata), 0, 0,
-                LENT(MIXED, mixed, sizeof mixed), LENT(KEY_ID, key_id, sizeof key_id), LENT(PUBLIC_KEY, public_key, sizeof public_key),
-                LENT(NONCE, nonce, sizeof nonce), LENT(HASH, hash, sizeof hash), LENT(TABLE, table.at, table.length),
-                LENT(RESPONSE, response, sizeof response), LENT(TABLE_OUT, table_out, sizeof table_out), &answer, &response_length, &table_length);
-#undef LENT
-            expect(refusal == refusals_of[registering][none], "a command with NULL for an empty stretch");
-            expect(refusal == 0 || all_untouched(), "a refused command with NULL for an empty stretch");
-        }
-    }
 }
 
 /* ---- numbers whose low 8 or 16 bits are a good number */
@@ -437,16 +442,15 @@ static void empty_stretches(void)
 /* A right command with this tag; a Sign has content, and a Deregister is about the record of stored_record. */
 static void some_command(struct bytes *command, unsigned tag)
 {
-    static const uint8_t access_token[] = {0xAA};
     struct bytes children = {{0}, 0};
     if (tag == 0x3402 || tag == 0x3403) {
-        children_of(&children, tag == 0x3402 ? ann : NULL, "7.40 to 3");
+        children_of(&children, tag == 0x3402 ? ann : NULL, dividend);
     } else if (tag != 0x3401) {
         tlv(&children, 0x280D, &zero, 1);
     }
     if (tag == 0x3404) {
         tlv(&children, 0x2E09, key_id, sizeof key_id);
-        tlv(&children, 0x2805, access_token, 1);
+        tlv(&children, 0x2805, access_token, sizeof access_token);
     }
     command_of(command, tag, &children);
 }
@@ -461,7 +465,7 @@ static int answered(unsigned tag, const struct numbers *n, const struct bytes *t
         return wrote(UAF_DRAFT, &expected, &left);
     }
     if (tag == 0x3403) {
-        signed_data(&expected, n, 9);
+        signed_data(&expected, n, dividend_hash, 9);
         stored_record(&left, 9);
         return wrote(UAF_DRAFT, &expected, &left);
     }
@@ -500,6 +504,60 @@ static void numbers_lent(void)
         for (size_t i = 0; i < 2; i++)
             for (size_t k = 0; k < 5; k++)
                 number_lent(tags[k], which, values[i], used[which][k] && values[i] > greatest[which]);
+}
+
+/* ---- what is lent, and what is not */
+
+/* Each stretch of uaf_command, one at a time, as NULL and 0: a good empty table, or the refusal that this length has. */
+static void empty_stretches(void)
+{
+    enum { COMMAND, AAID, METADATA, KEY_ID, PUBLIC_KEY, NONCE, TABLE, RESPONSE, TABLE_OUT, STRETCHES_OF_COMMAND };
+    static const struct {
+        unsigned tag;
+        uint32_t refusals[STRETCHES_OF_COMMAND];
+    } rows[] = {
+        {0x3401, {3, 4, 4, 0, 0, 0, 0, 1, 1}},
+        {0x3402, {3, 4, 4, 4, 4, 0, 0, 1, 1}},
+        {0x3403, {3, 4, 4, 0, 0, 4, 0, 1, 1}},
+        {0x3404, {3, 0, 0, 0, 0, 0, 0, 1, 1}},
+        {0x3406, {3, 0, 0, 0, 0, 0, 0, 1, 1}},
+    };
+    for (size_t i = 0; i < sizeof rows / sizeof *rows; i++) {
+        struct bytes command = {{0}, 0}, table = {{0}, 0};
+        some_command(&command, rows[i].tag);
+        stored_records(&table, 1);
+        for (int none = 0; none < STRETCHES_OF_COMMAND; none++) {
+#define LENT(which, at, size) none == which ? NULL : (at), none == which ? 0 : (size)
+            fill_outputs();
+            uint32_t refusal = uaf_command(
+                LENT(COMMAND, command.at, command.length), LENT(AAID, aaid, sizeof aaid), 1, 2, 3, LENT(METADATA, metadata, sizeof metadata), 0, 0,
+                LENT(KEY_ID, key_id, sizeof key_id), LENT(PUBLIC_KEY, public_key, sizeof public_key), LENT(NONCE, nonce, sizeof nonce),
+                LENT(TABLE, table.at, table.length), LENT(RESPONSE, response, sizeof response), LENT(TABLE_OUT, table_out, sizeof table_out),
+                &answer, &response_length, &table_length);
+#undef LENT
+            expect(refusal == rows[i].refusals[none], "a command with NULL for an empty stretch");
+            expect(refusal == 0 || all_untouched(), "a refused command with NULL for an empty stretch");
+        }
+    }
+}
+
+/* Deregister and Open settings look at nothing that is lent: no stretch at all, and every number out of range. */
+static void nothing_lent(void)
+{
+    const struct numbers n = usual(UAF_VERIFIED, UAF_SHOWN_CONFIRMED);
+    for (unsigned tag = 0x3404; tag <= 0x3406; tag += 2) {
+        struct bytes command = {{0}, 0}, table = {{0}, 0};
+        some_command(&command, tag);
+        stored_record(&table, 8);
+        fill_outputs();
+        expect(
+            uaf_command(
+                command.at, command.length, NULL, 0, UINT32_MAX, UINT32_MAX, UINT32_MAX, NULL, 0, UINT32_MAX, UINT32_MAX, NULL, 0, NULL, 0,
+                NULL, 0, table.at, table.length, response, sizeof response, table_out, sizeof table_out, &answer, &response_length,
+                &table_length) == 0,
+            "Deregister or Open settings looks at what is lent");
+        expect(answered(tag, &n, &table), "Deregister or Open settings with nothing lent");
+    }
 }
 
 /* ---- completion and the reader */
@@ -683,7 +741,7 @@ static struct fields least_fields(void)
     memset(&f, 0, sizeof f);
     give(&f, OF_CHALLENGE, 1);
     give(&f, OF_NAME, 3);
-    give(&f, OF_TOKEN, 1);
+    give(&f, OF_TOKEN, UAF_ACCESS_TOKEN_SIZE);
     give(&f, OF_KEY_ID, 0);
     f.attestation = UAF_BASIC_FULL;
     return f;
@@ -795,32 +853,32 @@ static void is_unwritten(unsigned tag, const struct fields *f, const char *what)
     expect(pool_is_as_lent(), "a refusing writer changed a field");
 }
 
-/* Each command as bytes. Those of GetInfo, Open settings, Deregister and Sign with the fewest fields are document 01's P1, P6, P7 and P8. */
+/* Each command as bytes. Those of GetInfo and Open settings are document 01's P1 and P6; Deregister and Sign with the fewest fields are P7 and P8
+ * with an access token of 32 bytes. */
 static void writes_these_bytes(void)
 {
-#define EIGHT(byte) byte, byte, byte, byte, byte, byte, byte, byte
-#define THIRTY_TWO(byte) EIGHT(byte), EIGHT(byte), EIGHT(byte), EIGHT(byte)
-    static const uint8_t app_id[] = {'a', '.', 'b'}, two[] = {0xC1, 0xC2}, token[] = {0xD1, 0xD2}, verify[] = {0xE1}, byte[] = {0xAA};
+    static const uint8_t app_id[] = {'a', '.', 'b'}, two[] = {0xC1, 0xC2}, token[] = {THIRTY_TWO(0xD1)}, verify[] = {0xE1}, byte[] = {0xAA};
     static const uint8_t content[] = {'3', '.', '2', '0'}, handles[] = {THIRTY_TWO(0x11), THIRTY_TWO(0x22)}, key[] = {THIRTY_TWO(0x33)};
     static const uint8_t info[] = {0x01, 0x34, 0x00, 0x00};
     static const uint8_t settings[] = {0x06, 0x34, 0x05, 0x00, 0x0D, 0x28, 0x01, 0x00, 0x00};
     static const uint8_t removing_all[] = {
-        0x04, 0x34, 0x0E, 0x00, 0x0D, 0x28, 0x01, 0x00, 0x00, 0x09, 0x2E, 0x00, 0x00, 0x05, 0x28, 0x01, 0x00, 0xAA};
+        0x04, 0x34, 0x2D, 0x00, 0x0D, 0x28, 0x01, 0x00, 0x00, 0x09, 0x2E, 0x00, 0x00, 0x05, 0x28, 0x20, 0x00, THIRTY_TWO(0xAA)};
     static const uint8_t removing_one[] = {
-        0x04, 0x34, 0x36, 0x00, 0x0D, 0x28, 0x01, 0x00, 0x00, 0x04, 0x28, 0x03, 0x00, 'a', '.', 'b', 0x09, 0x2E, 0x20, 0x00, THIRTY_TWO(0x33),
-        0x05, 0x28, 0x02, 0x00, 0xD1, 0xD2};
+        0x04, 0x34, 0x54, 0x00, 0x0D, 0x28, 0x01, 0x00, 0x00, 0x04, 0x28, 0x03, 0x00, 'a', '.', 'b', 0x09, 0x2E, 0x20, 0x00, THIRTY_TWO(0x33),
+        0x05, 0x28, 0x20, 0x00, THIRTY_TWO(0xD1)};
     static const uint8_t signing[] = {
-        0x03, 0x34, 0x0F, 0x00, 0x0D, 0x28, 0x01, 0x00, 0x00, 0x0A, 0x2E, 0x01, 0x00, 0xAA, 0x05, 0x28, 0x01, 0x00, 0xAA};
+        0x03, 0x34, 0x2E, 0x00, 0x0D, 0x28, 0x01, 0x00, 0x00, 0x0A, 0x2E, 0x01, 0x00, 0xAA, 0x05, 0x28, 0x20, 0x00, THIRTY_TWO(0xAA)};
     static const uint8_t signing_all[] = {
-        0x03, 0x34, 0x6D, 0x00, 0x0D, 0x28, 0x01, 0x00, 0x00, 0x04, 0x28, 0x03, 0x00, 'a', '.', 'b', 0x0A, 0x2E, 0x02, 0x00, 0xC1, 0xC2,
-        0x10, 0x28, 0x04, 0x00, '3', '.', '2', '0', 0x05, 0x28, 0x02, 0x00, 0xD1, 0xD2, 0x03, 0x28, 0x01, 0x00, 0xE1,
+        0x03, 0x34, 0x8B, 0x00, 0x0D, 0x28, 0x01, 0x00, 0x00, 0x04, 0x28, 0x03, 0x00, 'a', '.', 'b', 0x0A, 0x2E, 0x02, 0x00, 0xC1, 0xC2,
+        0x10, 0x28, 0x04, 0x00, '3', '.', '2', '0', 0x05, 0x28, 0x20, 0x00, THIRTY_TWO(0xD1), 0x03, 0x28, 0x01, 0x00, 0xE1,
         0x01, 0x28, 0x20, 0x00, THIRTY_TWO(0x11), 0x01, 0x28, 0x20, 0x00, THIRTY_TWO(0x22)};
     static const uint8_t registering[] = {
-        0x02, 0x34, 0x1C, 0x00, 0x0D, 0x28, 0x01, 0x00, 0x00, 0x0A, 0x2E, 0x01, 0x00, 0xAA, 0x06, 0x28, 0x03, 0x00, 'A', 'n', 'n',
-        0x07, 0x28, 0x02, 0x00, 0x08, 0x3E, 0x05, 0x28, 0x01, 0x00, 0xAA};
+        0x02, 0x34, 0x3B, 0x00, 0x0D, 0x28, 0x01, 0x00, 0x00, 0x0A, 0x2E, 0x01, 0x00, 0xAA, 0x06, 0x28, 0x03, 0x00, 'A', 'n', 'n',
+        0x07, 0x28, 0x02, 0x00, 0x08, 0x3E, 0x05, 0x28, 0x20, 0x00, THIRTY_TWO(0xAA)};
     static const uint8_t registering_all[] = {
-        0x02, 0x34, 0x2A, 0x00, 0x0D, 0x28, 0x01, 0x00, 0x00, 0x04, 0x28, 0x03, 0x00, 'a', '.', 'b', 0x0A, 0x2E, 0x02, 0x00, 0xC1, 0xC2,
-        0x06, 0x28, 0x03, 0x00, 'A', 'n', 'n', 0x07, 0x28, 0x02, 0x00, 0x07, 0x3E, 0x05, 0x28, 0x02, 0x00, 0xD1, 0xD2, 0x03, 0x28, 0x01, 0x00, 0xE1};
+        0x02, 0x34, 0x48, 0x00, 0x0D, 0x28, 0x01, 0x00, 0x00, 0x04, 0x28, 0x03, 0x00, 'a', '.', 'b', 0x0A, 0x2E, 0x02, 0x00, 0xC1, 0xC2,
+        0x06, 0x28, 0x03, 0x00, 'A', 'n', 'n', 0x07, 0x28, 0x02, 0x00, 0x07, 0x3E, 0x05, 0x28, 0x20, 0x00, THIRTY_TWO(0xD1),
+        0x03, 0x28, 0x01, 0x00, 0xE1};
     static const struct {
         unsigned tag;
         int all;
@@ -842,7 +900,7 @@ static void writes_these_bytes(void)
         struct fields f = least_fields();
         struct bytes expected = {{0}, 0};
         SET(OF_CHALLENGE, byte);
-        SET(OF_TOKEN, byte);
+        SET(OF_TOKEN, access_token);
         f.part[OF_NAME].at = (const uint8_t *)ann;
         f.attestation = rows[i].all ? UAF_BASIC_FULL : UAF_BASIC_SURROGATE;
         if (rows[i].all) {
@@ -860,8 +918,6 @@ static void writes_these_bytes(void)
         is_written(rows[i].tag, &f, rows[i].what); /* what is expected below, against these bytes */
     }
 #undef SET
-#undef THIRTY_TWO
-#undef EIGHT
 }
 
 /* Each field that may be left away: not given, given empty, given. An empty AppID breaks its rule. */
@@ -927,9 +983,9 @@ static void field_lengths(void)
         unsigned tag;
         size_t which, least, most;
     } rows[] = {
-        {0x3402, OF_APP_ID, 1, 512}, {0x3402, OF_CHALLENGE, 1, 32}, {0x3402, OF_NAME, 1, 128}, {0x3402, OF_TOKEN, 1, 32},
-        {0x3403, OF_APP_ID, 1, 512}, {0x3403, OF_CHALLENGE, 1, 32}, {0x3403, OF_TOKEN, 1, 32},
-        {0x3404, OF_APP_ID, 1, 512}, {0x3404, OF_TOKEN, 1, 32}, {0x3404, OF_KEY_ID, 32, 32}};
+        {0x3402, OF_APP_ID, 1, 512}, {0x3402, OF_CHALLENGE, 1, 32}, {0x3402, OF_NAME, 1, 128}, {0x3402, OF_TOKEN, 32, 32},
+        {0x3403, OF_APP_ID, 1, 512}, {0x3403, OF_CHALLENGE, 1, 32}, {0x3403, OF_TOKEN, 32, 32},
+        {0x3404, OF_APP_ID, 1, 512}, {0x3404, OF_TOKEN, 32, 32}, {0x3404, OF_KEY_ID, 32, 32}};
     for (size_t i = 0; i < sizeof rows / sizeof *rows; i++) {
         struct fields f = least_fields();
         give(&f, rows[i].which, rows[i].least);
@@ -949,6 +1005,12 @@ static void field_lengths(void)
     is_unwritten(0x3404, &f, "a KeyID of one byte");
     give(&f, OF_KEY_ID, 65536);
     is_unwritten(0x3404, &f, "a KeyID of 65,536 bytes");
+    f = least_fields();
+    for (unsigned tag = 0x3402; tag <= 0x3404; tag++)
+        for (size_t size = 0; size < UAF_ACCESS_TOKEN_SIZE; size++) {
+            give(&f, OF_TOKEN, size);
+            is_unwritten(tag, &f, "an access token of fewer than 32 bytes");
+        }
 }
 
 static void attestation_types(void)
@@ -1053,11 +1115,11 @@ static void fill_up(unsigned tag, struct fields *f, size_t which)
 
 static void longest_commands(void)
 {
-    /* the least Sign: the command's header, the index, a challenge, content and a token take 4 + 5 + 5 + 4 + 5 */
+    /* the least Sign: the command's header, the index, a challenge, content and a token take 4 + 5 + 5 + 4 + 36 */
     struct fields f = least_fields();
-    give(&f, OF_CONTENT, 8192 - 23);
+    give(&f, OF_CONTENT, 8192 - 54);
     is_written(0x3403, &f, "a Sign of 8,192 bytes");
-    give(&f, OF_CONTENT, 8192 - 22);
+    give(&f, OF_CONTENT, 8192 - 53);
     is_unwritten(0x3403, &f, "a Sign of 8,193 bytes");
 
     fill_up(0x3403, &f, OF_CONTENT);
@@ -1065,7 +1127,6 @@ static void longest_commands(void)
     fill_up(0x3403, &f, OF_VERIFY);
     give(&f, OF_APP_ID, UAF_MOST_APP_ID);
     give(&f, OF_CHALLENGE, UAF_MOST_CHALLENGE);
-    give(&f, OF_TOKEN, UAF_MOST_ACCESS_TOKEN);
     give_handles(&f, right_sizes, UAF_MOST_HANDLES, UAF_MOST_HANDLES * 32);
     fill_up(0x3403, &f, OF_VERIFY);
     fill_up(0x3403, &f, OF_CONTENT);
@@ -1080,8 +1141,8 @@ static void longest_commands(void)
     give(&f, OF_NAME, 4);
     is_unwritten(0x3402, &f, "a Register of 8,193 bytes by its name");
     give(&f, OF_NAME, 3);
-    give(&f, OF_TOKEN, 2);
-    is_unwritten(0x3402, &f, "a Register of 8,193 bytes by its access token");
+    give(&f, OF_CHALLENGE, 2);
+    is_unwritten(0x3402, &f, "a Register of 8,193 bytes by its challenge hash");
     f = least_fields();
     fill_up(0x3403, &f, OF_CONTENT);
     give_handles(&f, right_sizes, 1, 32);
@@ -1095,7 +1156,6 @@ static void longest_commands(void)
 static void written_and_run(void)
 {
     struct bytes children = {{0}, 0}, command = {{0}, 0}, none = {{0}, 0}, table = {{0}, 0}, draft = {{0}, 0}, left = {{0}, 0};
-    static const uint8_t access_token[] = {0xAA}, content[] = {'7', '.', '4', '0', ' ', 't', 'o', ' ', '3'};
     const struct numbers n = usual(UAF_VERIFIED, UAF_SHOWN_CONFIRMED);
     struct fields f = least_fields();
     f.part[OF_CHALLENGE].at = challenge;
@@ -1115,13 +1175,13 @@ static void written_and_run(void)
     stretch(&command, output, written_length);
     expect(call(&command, UAF_VERIFIED, UAF_SHOWN_CONFIRMED, &none) == 0 && wrote(UAF_DRAFT, &draft, &table), "a written Register");
 
-    give(&f, OF_CONTENT, sizeof content);
-    f.part[OF_CONTENT].at = content;
+    give(&f, OF_CONTENT, strlen(dividend));
+    f.part[OF_CONTENT].at = (const uint8_t *)dividend;
     give_handles(&f, right_sizes, 2, 64);
     uint8_t both[64] = {0}; /* a handle that nobody has, and the right one */
     memcpy(both + 32, key_id, sizeof key_id);
     f.part[OF_HANDLES].at = both;
-    signed_data(&draft, &n, 8);
+    signed_data(&draft, &n, dividend_hash, 8);
     stored_record(&table, 7);
     stored_record(&left, 8);
     expect(write_into(output, UAF_MOST_COMMAND, 0x3403, &f) == 0, "Sign is not written");
@@ -1147,6 +1207,198 @@ static void written_and_run(void)
     some_command(&command, 0x3406);
     is_written_as(&command, 0x3406, &f, "the Open settings of the tests above");
     expect(stretches_are_as_lent(), "a writer changed a lent stretch");
+}
+
+/* ---- the hash */
+
+/* uaf_hash gives this hash, as 32 bytes at a place of any alignment and nothing around them. */
+static int hash_is(const uint8_t *first, size_t first_size, const uint8_t *second, size_t second_size, size_t place, const uint8_t *expected)
+{
+    uint8_t out[8 + UAF_HASH_SIZE + 8];
+    memset(out, UNTOUCHED, sizeof out);
+    uaf_hash(first, first_size, second, second_size, out + place);
+    return memcmp(out + place, expected, UAF_HASH_SIZE) == 0 && untouched(out, 0, place) && untouched(out, place + UAF_HASH_SIZE, sizeof out);
+}
+
+/* A message cut at each of its places into two stretches, which begin at addresses of each alignment. */
+static void hash_of(const char *text, const uint8_t *expected)
+{
+    const size_t length = strlen(text);
+    uint8_t first[8 + 128], second[8 + 128];
+    for (size_t cut = 0; cut <= length; cut++)
+        for (size_t place = 0; place < 8; place++) {
+            memset(first, UNTOUCHED, sizeof first);
+            memset(second, UNTOUCHED, sizeof second);
+            memcpy(first + place, text, cut);
+            memcpy(second + 7 - place, text + cut, length - cut);
+            expect(hash_is(first + place, cut, second + 7 - place, length - cut, place, expected), "the hash of a published message");
+            expect(
+                memcmp(first + place, text, cut) == 0 && memcmp(second + 7 - place, text + cut, length - cut) == 0
+                    && untouched(first, place + cut, sizeof first) && untouched(second, 7 - place + length - cut, sizeof second),
+                "a hash changed what is hashed");
+        }
+}
+
+static void hashes(void)
+{
+    /* published with FIPS 180-4 */
+    static const uint8_t of_nothing[] = {
+        0xE3, 0xB0, 0xC4, 0x42, 0x98, 0xFC, 0x1C, 0x14, 0x9A, 0xFB, 0xF4, 0xC8, 0x99, 0x6F, 0xB9, 0x24,
+        0x27, 0xAE, 0x41, 0xE4, 0x64, 0x9B, 0x93, 0x4C, 0xA4, 0x95, 0x99, 0x1B, 0x78, 0x52, 0xB8, 0x55};
+    static const uint8_t of_abc[] = {
+        0xBA, 0x78, 0x16, 0xBF, 0x8F, 0x01, 0xCF, 0xEA, 0x41, 0x41, 0x40, 0xDE, 0x5D, 0xAE, 0x22, 0x23,
+        0xB0, 0x03, 0x61, 0xA3, 0x96, 0x17, 0x7A, 0x9C, 0xB4, 0x10, 0xFF, 0x61, 0xF2, 0x00, 0x15, 0xAD};
+    static const uint8_t of_56[] = {
+        0x24, 0x8D, 0x6A, 0x61, 0xD2, 0x06, 0x38, 0xB8, 0xE5, 0xC0, 0x26, 0x93, 0x0C, 0x3E, 0x60, 0x39,
+        0xA3, 0x3C, 0xE4, 0x59, 0x64, 0xFF, 0x21, 0x67, 0xF6, 0xEC, 0xED, 0xD4, 0x19, 0xDB, 0x06, 0xC1};
+    static const uint8_t of_112[] = {
+        0xCF, 0x5B, 0x16, 0xA7, 0x78, 0xAF, 0x83, 0x80, 0x03, 0x6C, 0xE5, 0x9E, 0x7B, 0x04, 0x92, 0x37,
+        0x0B, 0x24, 0x9B, 0x11, 0xE8, 0xF0, 0x7A, 0x51, 0xAF, 0xAC, 0x45, 0x03, 0x7A, 0xFE, 0xE9, 0xD1};
+    static const uint8_t of_million[] = {
+        0xCD, 0xC7, 0x6E, 0x5C, 0x99, 0x14, 0xFB, 0x92, 0x81, 0xA1, 0xC7, 0xE2, 0x84, 0xD7, 0x3E, 0x67,
+        0xF1, 0x80, 0x9A, 0x48, 0xA4, 0x97, 0x20, 0x0E, 0x04, 0x6D, 0x39, 0xCC, 0xC7, 0x11, 0x2C, 0xD0};
+    /* from another SHA-256: see below */
+    static const uint8_t of_chain[] = {
+        0xC9, 0xCF, 0xE8, 0x6D, 0x1A, 0x21, 0x44, 0x09, 0xC7, 0x7C, 0x51, 0xE2, 0xF9, 0x89, 0xE8, 0x41,
+        0xCA, 0xAA, 0x13, 0x7C, 0x98, 0xE2, 0x0A, 0xD6, 0xB8, 0xE2, 0xD1, 0xE6, 0x8A, 0xD3, 0xB3, 0x8B};
+    static const uint8_t abc[] = {'a', 'b', 'c', 'a', 'b', 'c'};
+    static uint8_t million[1000000];
+
+    hash_of("", of_nothing);
+    hash_of("abc", of_abc);
+    hash_of("abcdbcdecdefdefgefghfghighijhijkijkljklmklmnlmnomnopnopq", of_56);
+    hash_of("abcdefghbcdefghicdefghijdefghijkefghijklfghijklmghijklmnhijklmnoijklmnopjklmnopqklmnopqrlmnopqrsmnopqrstnopqrstu", of_112);
+    memset(million, 'a', sizeof million);
+    static const size_t cuts[] = {0, 1, 63, 64, 65, 65536, 65537, 999999, 1000000};
+    for (size_t i = 0; i < sizeof cuts / sizeof *cuts; i++)
+        expect(hash_is(million, cuts[i], million + cuts[i], sizeof million - cuts[i], 0, of_million), "the hash of a million letters");
+
+    /* no bytes: the pointer is not followed */
+    expect(hash_is(NULL, 0, NULL, 0, 0, of_nothing), "the hash of no bytes, with NULL for both stretches");
+    expect(hash_is(abc, 3, NULL, 0, 0, of_abc), "a hash with NULL for the second stretch");
+    expect(hash_is(NULL, 0, abc, 3, 0, of_abc), "a hash with NULL for the first stretch");
+
+    /* the same bytes lent twice, and stretches that overlap */
+    uint8_t twice[UAF_HASH_SIZE];
+    uaf_hash(abc, 6, NULL, 0, twice);
+    expect(hash_is(abc, 3, abc, 3, 0, twice) && hash_is(abc, 4, abc + 1, 2, 0, twice), "a hash of stretches that overlap");
+
+    /* Every length from 0 to 300, and some more, each with the hash before it in front, from the hash of nothing on. The last lengths have 0, 1 and
+     * 512 in their low 16 bits. */
+    static const size_t lengths[] = {8192, 65535, 65536, 65537, 65536 + 512};
+    uint8_t chain[2][UAF_HASH_SIZE];
+    memcpy(chain[0], of_nothing, UAF_HASH_SIZE);
+    for (size_t i = 0; i < 301 + sizeof lengths / sizeof *lengths; i++) {
+        uaf_hash(chain[i % 2], UAF_HASH_SIZE, pool, i < 301 ? i : lengths[i - 301], chain[1 - i % 2]);
+    }
+    expect(memcmp(chain[(301 + sizeof lengths / sizeof *lengths) % 2], of_chain, UAF_HASH_SIZE) == 0, "hashes of many lengths");
+    expect(pool_is_as_lent(), "a hash changed what is hashed");
+
+    /* what the other tests expect in tables and drafts */
+    expect(hash_is(access_token, sizeof access_token, NULL, 0, 0, mixed), "the hash of the access token");
+    expect(hash_is(access_token, sizeof access_token, (const uint8_t *)firm, strlen(firm), 0, mixed_with_firm), "the hash of access token and AppID");
+    expect(hash_is((const uint8_t *)dividend, strlen(dividend), NULL, 0, 0, dividend_hash), "the hash of the content");
+}
+
+/* A Register, Sign or Deregister that has this access token and, where it is not NULL, this AppID. */
+static void asking(struct bytes *command, unsigned tag, const char *app_id, const uint8_t *token, size_t token_size)
+{
+    static const uint8_t full[] = {0x07, 0x3E};
+    struct bytes children = {{0}, 0};
+    tlv(&children, 0x280D, &zero, 1);
+    if (app_id != NULL)
+        letters(&children, 0x2804, app_id);
+    if (tag != 0x3404)
+        tlv(&children, 0x2E0A, challenge, sizeof challenge);
+    if (tag == 0x3402) {
+        letters(&children, 0x2806, ann);
+        tlv(&children, 0x2807, full, 2);
+    }
+    if (tag == 0x3404)
+        tlv(&children, 0x2E09, key_id, sizeof key_id);
+    tlv(&children, 0x2805, token, token_size);
+    command_of(command, tag, &children);
+}
+
+/* Such a command is this holder's: its Register makes a record with this mixed token, its Sign and its Deregister find that record and no other's. */
+static void is_holder(const char *app_id, const uint8_t *token, const uint8_t *holder, const uint8_t *other)
+{
+    struct bytes command = {{0}, 0}, none = {{0}, 0}, draft = {{0}, 0}, own = {{0}, 0}, counted = {{0}, 0}, others = {{0}, 0}, ok = {{0}, 0};
+    const struct numbers n = usual(UAF_VERIFIED, UAF_SHOWN_CONFIRMED);
+    add_record_of(&own, holder, key_id, ann, 0);
+    add_record_of(&counted, holder, key_id, ann, 1);
+    add_record_of(&others, other, key_id, ann, 0);
+
+    asking(&command, 0x3402, app_id, token, UAF_ACCESS_TOKEN_SIZE);
+    krd(&draft, &n);
+    expect(call(&command, UAF_VERIFIED, UAF_SHOWN_CONFIRMED, &none) == 0 && wrote(UAF_DRAFT, &draft, &own), "Register: whose it is");
+
+    asking(&command, 0x3403, app_id, token, UAF_ACCESS_TOKEN_SIZE);
+    signed_data(&draft, &n, NULL, 1);
+    expect(call(&command, UAF_VERIFIED, UAF_SHOWN_CONFIRMED, &own) == 0 && wrote(UAF_DRAFT, &draft, &counted), "Sign: whose it is");
+    expect(says(&command, UAF_VERIFIED, UAF_SHOWN_CONFIRMED, &others, 0x3603, UAF_STATUS_ACCESS_DENIED), "Sign: another holder's record");
+
+    asking(&command, 0x3404, app_id, token, UAF_ACCESS_TOKEN_SIZE);
+    status_only(&ok, 0x3604, UAF_STATUS_OK);
+    expect(call(&command, 0, 0, &own) == 0 && wrote(UAF_RESPONSE, &ok, &none), "Deregister: whose it is");
+    expect(says(&command, 0, 0, &others, 0x3604, UAF_STATUS_ACCESS_DENIED), "Deregister: another holder's record");
+}
+
+/* Whose a command is: the hash of its access token, of 32 bytes, and of its AppID where it has one. */
+static void holders(void)
+{
+    is_holder(NULL, access_token, mixed, mixed_with_firm);
+    is_holder(firm, access_token, mixed_with_firm, mixed);
+    uint8_t token[2 * UAF_ACCESS_TOKEN_SIZE], its_mixed[UAF_MIXED_SIZE];
+    memset(token, 0xAA, sizeof token);
+    for (size_t i = 0; i < UAF_ACCESS_TOKEN_SIZE; i++) { /* each byte counts */
+        token[i] ^= 1;
+        uaf_hash(token, UAF_ACCESS_TOKEN_SIZE, NULL, 0, its_mixed);
+        is_holder(NULL, token, its_mixed, mixed);
+        token[i] ^= 1;
+    }
+    char longest[UAF_MOST_APP_ID + 1] = {0};
+    for (size_t length = 1; length <= UAF_MOST_APP_ID; length += 73) { /* 512 among them */
+        memset(longest, 'a', length);
+        uaf_hash(access_token, sizeof access_token, (const uint8_t *)longest, length, its_mixed);
+        is_holder(longest, access_token, its_mixed, mixed);
+    }
+
+    /* Other lengths are 0x08, whatever the verdict. That of 31 bytes has the byte that it lost in front of the AppID: what is run together is the same. */
+    static const size_t sizes[] = {0, 1, 31, 33, 64};
+    struct bytes command = {{0}, 0}, table = {{0}, 0};
+    char shifted[1 + sizeof firm] = "\xAA";
+    memcpy(shifted + 1, firm, sizeof firm);
+    expect(hash_is(token, 31, (const uint8_t *)shifted, strlen(shifted), 0, mixed_with_firm), "a hash of bytes that are cut elsewhere");
+    add_record_of(&table, mixed_with_firm, key_id, ann, 7);
+    for (unsigned tag = 0x3402; tag <= 0x3404; tag++)
+        for (size_t i = 0; i < sizeof sizes / sizeof *sizes; i++)
+            for (uint32_t verdict = UAF_VERIFIED; verdict <= UAF_LOCKED_OUT; verdict++) {
+                asking(&command, tag, sizes[i] == 31 ? shifted : firm, token, sizes[i]);
+                expect(says(&command, verdict, 0, &table, tag + 0x200, UAF_STATUS_PARAMS_INVALID), "an access token of other than 32 bytes");
+            }
+}
+
+/* The hash in signed data is that of the content, up to the longest that a command has room for. */
+static void contents(void)
+{
+    static const size_t sizes[] = {1, 55, 56, 63, 64, 65, 119, 120, 128, 1000, 8192 - 4 - 5 - 24 - 4 - 36};
+    const struct numbers n = usual(UAF_VERIFIED, UAF_SHOWN_CONFIRMED);
+    for (size_t i = 0; i < sizeof sizes / sizeof *sizes; i++) {
+        struct bytes children = {{0}, 0}, command = {{0}, 0}, table = {{0}, 0}, left = {{0}, 0}, draft = {{0}, 0};
+        uint8_t hash[UAF_HASH_SIZE];
+        tlv(&children, 0x280D, &zero, 1);
+        tlv(&children, 0x2E0A, challenge, sizeof challenge);
+        tlv(&children, 0x2810, pool, sizes[i]);
+        tlv(&children, 0x2805, access_token, sizeof access_token);
+        command_of(&command, 0x3403, &children);
+        uaf_hash(pool, sizes[i], NULL, 0, hash);
+        signed_data(&draft, &n, hash, 8);
+        stored_record(&table, 7);
+        stored_record(&left, 8);
+        expect(call(&command, UAF_VERIFIED, UAF_SHOWN_CONFIRMED, &table) == 0 && wrote(UAF_DRAFT, &draft, &left), "Sign: the hash of its content");
+    }
+    expect(pool_is_as_lent(), "Sign changed its content");
 }
 
 /* ---- usernames: well-formed UTF-8 by RFC 3629, or none */
@@ -1272,6 +1524,32 @@ static void usernames(void)
     name_refused(longest);
 }
 
+/* Document 01's P7, P8 and P9. Their access token has one byte, which is 0x08 now; with one of 32 bytes they show what they did. */
+static void examples(void)
+{
+    static const uint8_t p7[] = {0x04, 0x34, 0x0E, 0x00, 0x0D, 0x28, 0x01, 0x00, 0x00, 0x09, 0x2E, 0x00, 0x00, 0x05, 0x28, 0x01, 0x00, 0xAA};
+    static const uint8_t p8[] = {0x03, 0x34, 0x0F, 0x00, 0x0D, 0x28, 0x01, 0x00, 0x00, 0x0A, 0x2E, 0x01, 0x00, 0xAA, 0x05, 0x28, 0x01, 0x00, 0xAA};
+    static const uint8_t p7_of_32[] = {
+        0x04, 0x34, 0x2D, 0x00, 0x0D, 0x28, 0x01, 0x00, 0x00, 0x09, 0x2E, 0x00, 0x00, 0x05, 0x28, 0x20, 0x00, THIRTY_TWO(0xAA)};
+    static const uint8_t p8_of_32[] = {
+        0x03, 0x34, 0x2E, 0x00, 0x0D, 0x28, 0x01, 0x00, 0x00, 0x0A, 0x2E, 0x01, 0x00, 0xAA, 0x05, 0x28, 0x20, 0x00, THIRTY_TWO(0xAA)};
+    struct bytes removing = {{0}, 0}, signing = {{0}, 0}, none = {{0}, 0}, both = {{0}, 0}, list = {{0}, 0};
+    two_named(&both, &list, "Bo");
+    stretch(&removing, p7, sizeof p7);
+    stretch(&signing, p8, sizeof p8);
+    expect(says(&removing, 0, 0, &none, 0x3604, UAF_STATUS_PARAMS_INVALID), "P7");
+    expect(says(&signing, UAF_VERIFIED, UAF_SHOWN_CONFIRMED, &none, 0x3603, UAF_STATUS_PARAMS_INVALID), "P8");
+    expect(says(&signing, UAF_VERIFIED, UAF_SHOWN_CONFIRMED, &both, 0x3603, UAF_STATUS_PARAMS_INVALID), "P9");
+
+    removing.length = signing.length = 0;
+    stretch(&removing, p7_of_32, sizeof p7_of_32);
+    stretch(&signing, p8_of_32, sizeof p8_of_32);
+    expect(says(&removing, 0, 0, &none, 0x3604, UAF_STATUS_OK), "P7 with an access token of 32 bytes");
+    expect(says(&signing, UAF_VERIFIED, UAF_SHOWN_CONFIRMED, &none, 0x3603, UAF_STATUS_ACCESS_DENIED), "P8 with an access token of 32 bytes");
+    expect(call(&signing, UAF_VERIFIED, UAF_SHOWN_CONFIRMED, &both) == 0, "P9 with an access token of 32 bytes is refused");
+    expect(list.length == 103 && wrote(UAF_RESPONSE, &list, &both), "P9 with an access token of 32 bytes");
+}
+
 /* ---- constants and names, with the numbers of documents 001 and 01 */
 
 struct named {
@@ -1387,7 +1665,7 @@ static void constants_and_names(void)
         {UAF_METADATA_SIZE, 15, "metadata"},
         {UAF_MIXED_SIZE, 32, "mixed token"},
         {UAF_KEY_ID_SIZE, 32, "KeyID"},
-        {UAF_HASH_SIZE, 32, "transaction hash"},
+        {UAF_HASH_SIZE, 32, "hash"},
         {UAF_LEAST_NONCE, 8, "least nonce"},
         {UAF_MOST_NONCE, 32, "nonce"},
         {UAF_MOST_PUBLIC_KEY, 512, "public key"},
@@ -1396,7 +1674,7 @@ static void constants_and_names(void)
         {UAF_MOST_APP_ID, 512, "AppID"},
         {UAF_MOST_CHALLENGE, 32, "challenge hash"},
         {UAF_MOST_USERNAME, 128, "username"},
-        {UAF_MOST_ACCESS_TOKEN, 32, "access token"},
+        {UAF_ACCESS_TOKEN_SIZE, 32, "access token"},
         {UAF_MOST_FIELDS, 17, "fields"},
         {UAF_VERIFIED, 0, "verified"},
         {UAF_DENIED, 1, "denied"},
@@ -1421,7 +1699,7 @@ static void constants_and_names(void)
     char version[32];
     snprintf(version, sizeof version, "%d.%d", UAF_TOKEN_MAJOR, UAF_TOKEN_MINOR);
     expect(strcmp(version, UAF_TOKEN_VERSION) == 0, "the version's numbers and its text");
-    expect(strcmp(version, "2.1") == 0, "the version");
+    expect(strcmp(version, "3.0") == 0, "the version");
 }
 
 int main(void)
@@ -1434,8 +1712,9 @@ int main(void)
     signs();
     deregisters_and_settings();
     refusals();
-    empty_stretches();
     numbers_lent();
+    empty_stretches();
+    nothing_lent();
     completes();
     reads();
     writes_these_bytes();
@@ -1446,7 +1725,11 @@ int main(void)
     key_handles();
     longest_commands();
     written_and_run();
+    hashes();
+    holders();
+    contents();
     usernames();
+    examples();
     printf("header: %d checks, %s\n", checks,
 #ifdef __cplusplus
            "as C++"

@@ -35,16 +35,12 @@ pub unsafe extern "C" fn peer_command(
     metadata_size: usize,
     verdict: u32,
     display: u32,
-    mixed: *const u8,
-    mixed_size: usize,
     key_id: *const u8,
     key_id_size: usize,
     public_key: *const u8,
     public_key_size: usize,
     nonce: *const u8,
     nonce_size: usize,
-    hash: *const u8,
-    hash_size: usize,
     table: *const u8,
     table_size: usize,
     response: *mut u8,
@@ -65,11 +61,9 @@ pub unsafe extern "C" fn peer_command(
         },
         verdict,
         display,
-        mixed: slice::from_raw_parts(mixed, mixed_size),
         key_id: slice::from_raw_parts(key_id, key_id_size),
         public_key: slice::from_raw_parts(public_key, public_key_size),
         nonce: slice::from_raw_parts(nonce, nonce_size),
-        hash: slice::from_raw_parts(hash, hash_size),
     };
     let result = uaf_peer::command(
         slice::from_raw_parts(command, command_size),
@@ -87,6 +81,23 @@ pub unsafe extern "C" fn peer_command(
         *response_length = length;
         *table_length = served.table_length;
     })
+}
+
+/// # Safety
+///
+/// As `uaf_hash` in `uaf_token.h`.
+#[no_mangle]
+pub unsafe extern "C" fn peer_hash(
+    first: *const u8,
+    first_size: usize,
+    second: *const u8,
+    second_size: usize,
+    hash: *mut [u8; 32],
+) {
+    *hash = uaf_peer::hash(
+        slice::from_raw_parts(first, first_size),
+        slice::from_raw_parts(second, second_size),
+    );
 }
 
 /// # Safety

@@ -1,7 +1,7 @@
 //! A call of one of the entries, with all that it is lent.
 
 use crate::data::{noise, ACCESS_TOKEN, APP_ID, CHALLENGE};
-use crate::entries::{Entries, Row, MOST_FIELDS};
+use crate::entries::{mbedtls, Digest, Entries, Row, MOST_FIELDS};
 use crate::placed::{Placed, Role};
 
 pub const LEAST_RESPONSE: usize = 4096;
@@ -14,11 +14,11 @@ pub enum Call {
     SignedPart(Placed),
     ReadFields(Placed),
     Write(Write),
+    Hash(Hash),
 }
 
 pub struct Command {
     pub command: Placed,
-    pub mixed: Placed,
     pub key_id: Placed,
     pub table: Placed,
     /// How much of the table output is lent.
@@ -55,6 +55,14 @@ pub enum Written {
     OpenSettings,
 }
 
+/// Two stretches, either of which may be empty.
+pub struct Hash {
+    pub first: Placed,
+    pub second: Placed,
+    /// Both run together, as mbedTLS is given them: it is spared the second stretch.
+    pub joined: Placed,
+}
+
 /// Whether a field is given to a writer.
 const NOT_GIVEN: u32 = 0;
 const GIVEN: u32 = 1;
@@ -67,12 +75,7 @@ impl Call {
     /// Moves what it is lent to its place in a round.
     pub fn settle(&mut self, round: usize) {
         let lent = match self {
-            Call::Command(call) => vec![
-                &mut call.command,
-                &mut call.mixed,
-                &mut call.key_id,
-                &mut call.table,
-            ],
+            Call::Command(call) => vec![&mut call.command, &mut call.key_id, &mut call.table],
             Call::Complete(call) => vec![&mut call.draft, &mut call.certificate],
             Call::SignedPart(response) | Call::ReadFields(response) => vec![response],
             Call::Write(call) => match &mut call.what {
@@ -83,6 +86,7 @@ impl Call {
                 Written::Deregister { key_id } => vec![key_id],
                 Written::GetInfo | Written::OpenSettings => Vec::new(),
             },
+            Call::Hash(call) => vec![&mut call.first, &mut call.second, &mut call.joined],
         };
         for placed in lent {
             placed.settle(round);
@@ -99,7 +103,6 @@ pub struct Desk {
     metadata: Vec<u8>,
     public_key: Vec<u8>,
     nonce: Vec<u8>,
-    hash: Vec<u8>,
     signature: Vec<u8>,
 }
 
@@ -113,7 +116,6 @@ impl Desk {
             metadata: noise(15, 1),
             public_key: noise(91, 2),
             nonce: noise(16, 3),
-            hash: noise(32, 4),
             signature: noise(71, 5),
         }
     }
@@ -137,6 +139,7 @@ pub struct Outputs {
     tags: Row,
     places: Row,
     lengths: Row,
+    hash: Digest,
 }
 
 /// What outputs hold before a call, so that what it leaves alone is seen too.
@@ -160,6 +163,7 @@ impl Outputs {
             tags: [BEFORE; MOST_FIELDS],
             places: [BEFORE; MOST_FIELDS],
             lengths: [BEFORE; MOST_FIELDS],
+            hash: [BEFORE as u8; 32],
         }
     }
 
@@ -209,6 +213,16 @@ pub fn repeat(entries: &Entries, desk: &Desk, call: &Call, out: &mut Outputs, ti
             })
         }
         Call::Write(call) => writings(entries, call, out, times),
+        Call::Hash(call) => hashes(entries, call, out, times),
+    }
+}
+
+/// Makes a call so many times with mbedTLS, where it has one for it.
+#[inline(never)]
+pub fn repeat_mbedtls(call: &Call, out: &mut Outputs, times: u32) -> Option<u32> {
+    match call {
+        Call::Hash(call) => Some(mbedtls_hashes(call, out, times)),
+        _ => None,
     }
 }
 
@@ -229,16 +243,12 @@ fn commands(entries: &Entries, desk: &Desk, call: &Command, out: &mut Outputs, t
             desk.metadata.len(),
             0,
             0,
-            call.mixed.as_ptr(),
-            call.mixed.len(),
             call.key_id.as_ptr(),
             call.key_id.len(),
             desk.public_key.as_ptr(),
             desk.public_key.len(),
             desk.nonce.as_ptr(),
             desk.nonce.len(),
-            desk.hash.as_ptr(),
-            desk.hash.len(),
             call.table.as_ptr(),
             call.table.len(),
             response,
@@ -360,6 +370,28 @@ fn writings(entries: &Entries, call: &Write, out: &mut Outputs, times: u32) -> u
             (entries.write_open_settings)(command, room, length)
         }),
     }
+}
+
+/// Of its own, like `writings`.
+#[inline(never)]
+fn hashes(entries: &Entries, call: &Hash, out: &mut Outputs, times: u32) -> u32 {
+    let (first, first_size) = (call.first.as_ptr(), call.first.len());
+    let (second, second_size) = (call.second.as_ptr(), call.second.len());
+    // Safety: as in `commands`.
+    again(times, || unsafe {
+        (entries.hash)(first, first_size, second, second_size, &mut out.hash);
+        0
+    })
+}
+
+#[inline(never)]
+fn mbedtls_hashes(call: &Hash, out: &mut Outputs, times: u32) -> u32 {
+    let (sha256, joined, size) = (mbedtls(), call.joined.as_ptr(), call.joined.len());
+    // Safety: as in `commands`.
+    again(times, || unsafe {
+        sha256(joined, size, &mut out.hash, 0);
+        0
+    })
 }
 
 /// The loop that is timed: nothing but the call stands in it.

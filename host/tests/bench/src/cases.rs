@@ -1,10 +1,11 @@
-//! What is measured: each command on tables of five sizes and four kinds, and on tables with names in other texts; each completion, both calls of
-//! the reader, the writers of commands, and some refusals of each.
+//! What is measured: each command on tables of five sizes and four kinds, and on tables with names in other texts; commands that hash much; each
+//! completion, both calls of the reader, the writers of commands, and some refusals of each; and the hash.
 
 use crate::calls::{
-    repeat, Call, Command, Complete, Desk, Outputs, Write, Written, LEAST_TABLE, MOST_COMMAND,
+    repeat, repeat_mbedtls, Call, Command, Complete, Desk, Hash, Outputs, Write, Written,
+    LEAST_TABLE, MOST_COMMAND,
 };
-use crate::data::{self, command, noise, Ids, Setting, Text};
+use crate::data::{self, access_token, command, noise, Ids, Setting, Text};
 use crate::entries::{peer, token};
 use crate::placed::{Placed, Role};
 
@@ -20,7 +21,8 @@ const TABLE: u32 = 2;
 const BYTES: u32 = 5;
 const FIELD: u32 = 6;
 
-/// A holder without records: the four of a full table are 0 to 3.
+/// The holder of the first eight records, and one without any: the four of a full table are 0 to 3.
+const FIRST: usize = 0;
 const NEWCOMER: usize = 9;
 /// A KeyID that no table has.
 const UNUSED: usize = 99;
@@ -40,13 +42,9 @@ const HALF: u8 = 0xC3;
 
 const INDEX: (u16, &[u8]) = (0x280D, &[0]);
 const APP_ID: (u16, &[u8]) = (0x2804, data::APP_ID);
-const ACCESS_TOKEN: (u16, &[u8]) = (0x2805, data::ACCESS_TOKEN);
 const CHALLENGE: (u16, &[u8]) = (0x2E0A, data::CHALLENGE);
 const FULL: (u16, &[u8]) = (0x2807, &[0x07, 0x3E]);
-const CONTENT: (u16, &[u8]) = (
-    0x2810,
-    b"Race 4, place, 3 runners share: 7.40 / 2.10 / 2.10",
-);
+const CONTENT: &[u8] = b"Race 4, place, 3 runners share: 7.40 / 2.10 / 2.10";
 
 /// The commands, as they are numbered here.
 const GET_INFO: usize = 0;
@@ -67,28 +65,37 @@ const NAMES: [&str; 8] = [
     "Open settings",
 ];
 
-fn register(name: &[u8]) -> Vec<u8> {
-    let name = (0x2806, name);
-    let children = [INDEX, APP_ID, CHALLENGE, name, FULL, ACCESS_TOKEN];
+/// A newcomer's.
+fn register(app_id: &[u8], name: &[u8]) -> Vec<u8> {
+    let token = access_token(NEWCOMER);
+    let (app_id, name, token) = ((0x2804, app_id), (0x2806, name), (0x2805, &token[..]));
+    let children = [INDEX, app_id, CHALLENGE, name, FULL, token];
     command(0x3402, &children)
 }
 
-fn command_bytes(which: usize, setting: &Setting) -> Vec<u8> {
-    // The third record's, or the last one's before it.
+/// The first holder's, with the handle of its third record, or of the last one before it.
+fn sign(setting: &Setting, content: Option<&[u8]>, with_handle: bool) -> Vec<u8> {
+    let token = access_token(FIRST);
     let handle = setting.ids.key_id(setting.records.clamp(1, 3) - 1);
-    let first = setting.ids.key_id(0);
-    let sign = |more: &[(u16, &[u8])]| {
-        let children = [&[INDEX, APP_ID, CHALLENGE, ACCESS_TOKEN], more].concat();
-        command(0x3403, &children)
-    };
-    let deregister = |key: &[u8]| command(0x3404, &[INDEX, APP_ID, (0x2E09, key), ACCESS_TOKEN]);
+    let mut children = vec![INDEX, APP_ID, CHALLENGE, (0x2805, &token[..])];
+    children.extend(content.map(|content| (0x2810, content)));
+    children.extend(with_handle.then_some((0x2801, &handle[..])));
+    command(0x3403, &children)
+}
+
+fn deregister(key: &[u8]) -> Vec<u8> {
+    let token = access_token(FIRST);
+    command(0x3404, &[INDEX, APP_ID, (0x2E09, key), (0x2805, &token)])
+}
+
+fn command_bytes(which: usize, setting: &Setting) -> Vec<u8> {
     match which {
         GET_INFO => command(0x3401, &[]),
-        REGISTER => register(&setting.name(UNUSED)),
-        SIGN => sign(&[]),
-        SIGN_ONE => sign(&[(0x2801, &handle)]),
-        SIGN_CONTENT => sign(&[CONTENT, (0x2801, &handle)]),
-        DEREGISTER_ONE => deregister(&first),
+        REGISTER => register(data::APP_ID, &setting.name(UNUSED)),
+        SIGN => sign(setting, None, false),
+        SIGN_ONE => sign(setting, None, true),
+        SIGN_CONTENT => sign(setting, Some(CONTENT), true),
+        DEREGISTER_ONE => deregister(&setting.ids.key_id(0)),
         DEREGISTER_ALL => deregister(&[]),
         _ => command(0x3406, &[INDEX]),
     }
@@ -96,12 +103,11 @@ fn command_bytes(which: usize, setting: &Setting) -> Vec<u8> {
 
 /// A command of the first holder's, a Register of a newcomer's.
 fn command_call(which: usize, setting: &Setting) -> Command {
-    let holder = if which == REGISTER { NEWCOMER } else { 0 };
+    let caller = if which == REGISTER { NEWCOMER } else { FIRST };
     Command {
         command: Placed::new(&command_bytes(which, setting), Role::Command),
-        mixed: Placed::new(&setting.ids.mixed(holder), Role::Mixed),
         key_id: Placed::new(&setting.ids.key_id(UNUSED), Role::KeyId),
-        table: Placed::new(&setting.table(), Role::Table),
+        table: Placed::new(&setting.table(caller), Role::Table),
         room: LEAST_TABLE,
     }
 }
@@ -156,12 +162,39 @@ fn settings_in_texts() -> Vec<(String, Setting)> {
     settings
 }
 
-fn commands() -> Vec<Case> {
+/// The tag that a command's answer has on a table of so many records, and its status where it is a status alone.
+fn answered(which: usize, records: usize) -> (u16, Option<u8>) {
+    match (which, records) {
+        (GET_INFO, _) => (0x3601, None),
+        (REGISTER, 32) => (0x3602, Some(0x0F)),
+        (REGISTER, _) => (0x3E03, None),
+        (SIGN | SIGN_ONE | SIGN_CONTENT, 0) => (0x3603, Some(0x02)),
+        (SIGN, 2..) => (0x3603, None),
+        (SIGN | SIGN_ONE | SIGN_CONTENT, _) => (0x3E04, None),
+        (DEREGISTER_ONE, 0) => (0x3604, Some(0x02)),
+        (DEREGISTER_ONE | DEREGISTER_ALL, _) => (0x3604, Some(0x00)),
+        _ => (0x3606, Some(0x06)),
+    }
+}
+
+/// A command that is answered as its name says: one that finds no record of its holder's would be quicker.
+fn command_case(desk: &Desk, name: String, which: usize, setting: &Setting, call: Command) -> Case {
+    let case = served(name, Call::Command(call));
+    let bytes = answer(desk, &case.call);
+    let tag = u16::from_le_bytes([bytes[0], bytes[1]]);
+    let status = (bytes.len() == 10).then(|| bytes[8]);
+    let expected = answered(which, setting.records);
+    assert_eq!((tag, status), expected, "{}", case.name);
+    case
+}
+
+fn commands(desk: &Desk) -> Vec<Case> {
     let mut cases = Vec::new();
     for (which, name) in NAMES.iter().enumerate() {
         for (said, setting) in settings() {
-            let call = Call::Command(command_call(which, &setting));
-            cases.push(served(format!("{}, {}", name, said), call));
+            let name = format!("{}, {}", name, said);
+            let call = command_call(which, &setting);
+            cases.push(command_case(desk, name, which, &setting, call));
         }
     }
     cases
@@ -180,9 +213,27 @@ fn cut_name() -> Case {
     let mut name = setting.name(UNUSED);
     name[LONG - 1] = HALF;
     let mut call = command_call(REGISTER, &setting);
-    call.command = Placed::new(&register(&name), Role::Command);
+    call.command = Placed::new(&register(data::APP_ID, &name), Role::Command);
     let name = "Register: 8 records, its own long name cut".to_string();
     served(name, Call::Command(call))
+}
+
+/// Commands with much to hash: the longest AppID, and content that leaves room for little else.
+fn much_hashed(desk: &Desk) -> Vec<Case> {
+    let setting = Setting::new(8, Ids::Random, SHORT);
+    let longest = register(&noise(MOST_APP_ID, 9), &setting.name(UNUSED));
+    let content = sign(&setting, Some(&noise(8000, 7)), true);
+    [
+        ("Register: 8 records, AppID of 512", REGISTER, longest),
+        ("Sign: 8 records, content of 8,000", SIGN_CONTENT, content),
+    ]
+    .into_iter()
+    .map(|(name, which, bytes)| {
+        let mut call = command_call(which, &setting);
+        call.command = Placed::new(&bytes, Role::Command);
+        command_case(desk, name.to_string(), which, &setting, call)
+    })
+    .collect()
 }
 
 /// A table that is wrong only at the end of its last record or of its last name, and one byte too little room for it.
@@ -366,6 +417,9 @@ fn write_deregister(key: &[u8]) -> Call {
 
 /// The length of a key handle.
 const HANDLE: usize = 32;
+/// The lengths of an access token and of the longest AppID.
+const TOKEN: usize = 32;
+const MOST_APP_ID: usize = 512;
 
 /// A Register for each text and length of name.
 fn written_registers() -> Vec<Case> {
@@ -443,11 +497,32 @@ fn unwritten(desk: &Desk) -> Vec<Case> {
     ]
 }
 
+/// Two blocks with what is appended, the longest that a mixed token is made of, and as much as a command has.
+fn hashes() -> Vec<Case> {
+    [
+        ("hash: 64 bytes", 64, 0),
+        ("hash: 544 bytes, 32 and 512", TOKEN, MOST_APP_ID),
+        ("hash: 8,192 bytes", MOST_COMMAND, 0),
+    ]
+    .into_iter()
+    .map(|(name, first, second)| {
+        let (first, second) = (noise(first, 10), noise(second, 11));
+        let call = Hash {
+            joined: Placed::new(&[&first[..], &second].concat(), Role::Joined),
+            first: Placed::new(&first, Role::First),
+            second: Placed::new(&second, Role::Second),
+        };
+        served(name.to_string(), Call::Hash(call))
+    })
+    .collect()
+}
+
 /// All cases, in the order in which they are reported.
 pub fn all(desk: &Desk) -> Vec<Case> {
-    let mut cases = commands();
+    let mut cases = commands(desk);
     cases.push(hardest());
     cases.push(cut_name());
+    cases.extend(much_hashed(desk));
     cases.extend(refused_commands());
     for (name, call) in completions(desk) {
         cases.push(served(format!("complete: {}", name), call));
@@ -461,6 +536,7 @@ pub fn all(desk: &Desk) -> Vec<Case> {
     }
     cases.extend(written());
     cases.extend(unwritten(desk));
+    cases.extend(hashes());
     cases
 }
 
@@ -475,7 +551,16 @@ impl Case {
         });
         let [token, peer] = outputs;
         assert!(token == peer, "{}: the outputs differ", self.name);
+        let mut out = Outputs::new();
+        if repeat_mbedtls(&self.call, &mut out, 1).is_some() {
+            assert!(token == out, "{}: mbedTLS's differs", self.name);
+        }
         token
+    }
+
+    /// Whether mbedTLS has it too.
+    pub fn is_hash(&self) -> bool {
+        matches!(self.call, Call::Hash(_))
     }
 
     /// What the floor copies: what the call writes, the response first, or for the reader the response that it reads.
@@ -484,6 +569,8 @@ impl Case {
         let response = |bytes: &[u8]| Placed::new(bytes, Role::Response);
         match &self.call {
             Call::SignedPart(read) | Call::ReadFields(read) => vec![response(read)],
+            // A copy is no floor for a hash: mbedTLS stands beside it.
+            Call::Hash(_) => Vec::new(),
             _ if self.refusal != 0 => Vec::new(),
             Call::Command(_) => vec![
                 response(&out.response[..out.response_length]),

@@ -1,9 +1,27 @@
 //! What the cases are made of: tables and commands, each from its fields.
 
-/// What the commands of one caller have alike.
+use crate::entries::mbedtls;
+
+/// What the commands of all callers have alike, but for the access token, which each has for itself.
 pub const APP_ID: &[u8] = b"https://tote.example/facets.json";
 pub const ACCESS_TOKEN: &[u8] = b"0123456789abcdef0123456789abcdef";
 pub const CHALLENGE: &[u8] = b"a challenge hash: 32 bytes in it";
+
+/// A caller's access token.
+pub fn access_token(holder: usize) -> Vec<u8> {
+    let mut token = ACCESS_TOKEN.to_vec();
+    token[31] = b'a' + holder as u8;
+    token
+}
+
+/// The mixed token of a caller: the hash of its access token and the AppID, by neither token nor peer.
+fn mixed_of(holder: usize) -> Vec<u8> {
+    let both = [&access_token(holder), APP_ID].concat();
+    let mut hash = [0; 32];
+    // Safety: the pointer goes with the length of what it points to.
+    unsafe { mbedtls()(both.as_ptr(), both.len(), &mut hash, 0) };
+    hash.to_vec()
+}
 
 /// A TLV as bytes.
 pub fn tlv(tag: u16, value: &[u8]) -> Vec<u8> {
@@ -35,42 +53,49 @@ pub fn noise(length: usize, seed: u64) -> Vec<u8> {
     bytes
 }
 
-/// How KeyIDs and mixed tokens differ from each other.
+/// How KeyIDs and mixed tokens differ from each other. The mixed token that a command gives is a hash, which nobody chooses; a table may have any. So a
+/// table is made for a caller: its own records have its hash, and those of other holders have what is said here.
 #[derive(Clone, Copy)]
 pub enum Ids {
-    /// They share no more than chance gives, as hashes do.
+    /// They share no more than chance gives: KeyIDs are noise, and mixed tokens the hashes of other callers.
     Random,
-    /// They are equal but for the last byte, as counters are.
+    /// KeyIDs are equal but for the last byte, as counters are, and the other holders' mixed tokens equal the caller's but for the last byte.
     Alike,
     /// They are equal but for two of the last bytes, and the sums of their words are the same, which only someone who chooses them brings about:
-    /// neither a look at the first bytes nor a filter that adds up the words tells two of them apart.
+    /// neither a look at the first bytes nor a filter that adds up the words tells two of them apart. No mixed token is the caller's own.
     OfOneSum,
 }
 
 impl Ids {
-    fn of(self, number: usize, seed: u64) -> Vec<u8> {
+    pub fn mixed(self, holder: usize, caller: usize) -> Vec<u8> {
         match self {
-            Ids::Random => noise(32, seed + number as u64),
+            Ids::Random => mixed_of(holder),
             Ids::Alike => {
-                let mut id = noise(32, seed);
-                id[31] = number as u8;
+                let mut id = mixed_of(caller);
+                id[31] ^= (holder ^ caller) as u8;
                 id
             }
-            Ids::OfOneSum => {
-                let mut id = noise(32, seed);
-                (id[24], id[28]) = (number as u8, 255 - number as u8);
-                id
-            }
+            Ids::OfOneSum => of_one_sum(mixed_of(caller), holder),
         }
     }
 
-    pub fn mixed(self, holder: usize) -> Vec<u8> {
-        self.of(holder, 1000)
-    }
-
     pub fn key_id(self, record: usize) -> Vec<u8> {
-        self.of(record, 2000)
+        const SEED: u64 = 2000;
+        match self {
+            Ids::Random => noise(32, SEED + record as u64),
+            Ids::Alike => {
+                let mut id = noise(32, SEED);
+                id[31] = record as u8;
+                id
+            }
+            Ids::OfOneSum => of_one_sum(noise(32, SEED), record),
+        }
     }
+}
+
+fn of_one_sum(mut id: Vec<u8>, number: usize) -> Vec<u8> {
+    (id[24], id[28]) = (number as u8, 255 - number as u8);
+    id
 }
 
 /// What names are written in.
@@ -154,14 +179,17 @@ impl Setting {
         self.text.name(record, self.name_length)
     }
 
-    pub fn table(&self) -> Vec<u8> {
-        (0..self.records).flat_map(|i| self.record(i)).collect()
+    /// The table for a command of this caller's.
+    pub fn table(&self, caller: usize) -> Vec<u8> {
+        (0..self.records)
+            .flat_map(|i| self.record(i, caller))
+            .collect()
     }
 
-    fn record(&self, number: usize) -> Vec<u8> {
+    fn record(&self, number: usize, caller: usize) -> Vec<u8> {
         let inner = [
             tlv(0x2E09, &self.ids.key_id(number)),
-            tlv(0x2805, &self.ids.mixed(number / 8)),
+            tlv(0x2805, &self.ids.mixed(number / 8, caller)),
             tlv(0x2806, &self.name(number)),
             tlv(0x2E0D, &(number as u32 + 1).to_le_bytes()),
         ];

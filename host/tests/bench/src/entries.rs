@@ -1,9 +1,10 @@
-//! The entries of token and peer, as `host/include/uaf_token.h` declares the token's, and memcpy.
+//! The entries of token and peer, as `host/include/uaf_token.h` declares the token's, mbedTLS's SHA-256, and memcpy.
 //!
 //! All are called through pointers that the compiler cannot look behind: so nothing of the peer, which it optimises together with this program,
 //! is inlined into what calls it or made for the arguments given here.
 
-use std::ffi::c_void;
+use std::ffi::{c_void, CStr};
+use std::os::raw::{c_char, c_int};
 use std::ptr;
 
 // Only the archive that this crate links is asked for.
@@ -11,14 +12,15 @@ use uaf_token as _;
 
 pub const MOST_FIELDS: usize = 17;
 pub type Row = [usize; MOST_FIELDS];
+pub type Digest = [u8; 32];
 
 /// For each entry the type of a pointer to it, and the token's own.
 macro_rules! entries {
-    ($($alias:ident = $entry:ident($($argument:ident: $type:ty,)*);)*) => {
-        $(pub type $alias = unsafe extern "C" fn($($argument: $type),*) -> u32;)*
+    ($($alias:ident = $entry:ident($($argument:ident: $type:ty,)*) $(-> $result:ty)?;)*) => {
+        $(pub type $alias = unsafe extern "C" fn($($argument: $type),*) $(-> $result)?;)*
 
         extern "C" {
-            $(fn $entry($($argument: $type),*) -> u32;)*
+            $(fn $entry($($argument: $type),*) $(-> $result)?;)*
         }
     };
 }
@@ -36,16 +38,12 @@ entries! {
         metadata_size: usize,
         verdict: u32,
         display: u32,
-        mixed: *const u8,
-        mixed_size: usize,
         key_id: *const u8,
         key_id_size: usize,
         public_key: *const u8,
         public_key_size: usize,
         nonce: *const u8,
         nonce_size: usize,
-        hash: *const u8,
-        hash_size: usize,
         table: *const u8,
         table_size: usize,
         response: *mut u8,
@@ -55,7 +53,7 @@ entries! {
         answer: *mut u32,
         response_length: *mut usize,
         table_length: *mut usize,
-    );
+    ) -> u32;
     Complete = uaf_complete(
         kind: u32,
         draft: *const u8,
@@ -68,13 +66,13 @@ entries! {
         response: *mut u8,
         response_size: usize,
         response_length: *mut usize,
-    );
+    ) -> u32;
     SignedPart = uaf_signed_part(
         response: *const u8,
         response_size: usize,
         place: *mut usize,
         part_length: *mut usize,
-    );
+    ) -> u32;
     ReadFields = uaf_read_fields(
         response: *const u8,
         response_size: usize,
@@ -84,12 +82,12 @@ entries! {
         tags: *mut Row,
         places: *mut Row,
         lengths: *mut Row,
-    );
+    ) -> u32;
     WriteGetInfo = uaf_write_get_info(
         command: *mut u8,
         command_size: usize,
         command_length: *mut usize,
-    );
+    ) -> u32;
     WriteRegister = uaf_write_register(
         app_id_given: u32,
         app_id: *const u8,
@@ -107,7 +105,7 @@ entries! {
         command: *mut u8,
         command_size: usize,
         command_length: *mut usize,
-    );
+    ) -> u32;
     WriteSign = uaf_write_sign(
         app_id_given: u32,
         app_id: *const u8,
@@ -129,7 +127,7 @@ entries! {
         command: *mut u8,
         command_size: usize,
         command_length: *mut usize,
-    );
+    ) -> u32;
     WriteDeregister = uaf_write_deregister(
         app_id_given: u32,
         app_id: *const u8,
@@ -141,11 +139,18 @@ entries! {
         command: *mut u8,
         command_size: usize,
         command_length: *mut usize,
-    );
+    ) -> u32;
     WriteOpenSettings = uaf_write_open_settings(
         command: *mut u8,
         command_size: usize,
         command_length: *mut usize,
+    ) -> u32;
+    Hash = uaf_hash(
+        first: *const u8,
+        first_size: usize,
+        second: *const u8,
+        second_size: usize,
+        hash: *mut Digest,
     );
 }
 
@@ -160,6 +165,7 @@ pub struct Entries {
     pub write_sign: WriteSign,
     pub write_deregister: WriteDeregister,
     pub write_open_settings: WriteOpenSettings,
+    pub hash: Hash,
 }
 
 pub fn token() -> Entries {
@@ -173,6 +179,7 @@ pub fn token() -> Entries {
         write_sign: uaf_write_sign,
         write_deregister: uaf_write_deregister,
         write_open_settings: uaf_write_open_settings,
+        hash: uaf_hash,
     })
 }
 
@@ -187,7 +194,33 @@ pub fn peer() -> Entries {
         write_sign: peer_c::peer_write_sign,
         write_deregister: peer_c::peer_write_deregister,
         write_open_settings: peer_c::peer_write_open_settings,
+        hash: peer_c::peer_hash,
     })
+}
+
+/// Of one stretch; the last number is 0 for SHA-256. In some versions it gives a number, which is not looked at: the hash is.
+pub type Sha256 =
+    unsafe extern "C" fn(input: *const u8, size: usize, output: *mut Digest, is224: c_int);
+
+extern "C" {
+    fn mbedtls_sha256(input: *const u8, size: usize, output: *mut Digest, is224: c_int);
+    fn mbedtls_version_get_string_full(string: *mut c_char);
+}
+
+pub fn mbedtls() -> Sha256 {
+    hidden(mbedtls_sha256)
+}
+
+/// Its name and version.
+pub fn mbedtls_version() -> String {
+    // It writes at most 18 letters and a 0.
+    let mut letters: [c_char; 64] = [0; 64];
+    // Safety: there is room for what it writes, which ends with a 0.
+    let version = unsafe {
+        mbedtls_version_get_string_full(letters.as_mut_ptr());
+        CStr::from_ptr(letters.as_ptr())
+    };
+    version.to_string_lossy().into_owned()
 }
 
 pub type Memcpy = unsafe extern "C" fn(*mut c_void, *const c_void, usize) -> *mut c_void;

@@ -1,8 +1,10 @@
-//! The token beside the peer, both by their C entries, in one run. Every mode first makes sure that both give and write the same in every case.
+//! The token beside the peer, both by their C entries, in one run; a hash beside mbedTLS's too. Every mode first makes sure that all give and write the
+//! same in every case.
 //!
-//! - `bench`: the time of each case with both, their ratio, and the time of a memcpy of what goes through.
-//! - `bench stack`: how deep each case goes with both.
-//! - `bench calls token|peer`: each case twice, for an instruction count of what is called inside `counted`.
+//! - `bench`: the time of each case with both, their ratio, and the time of a memcpy of what goes through; of a hash mbedTLS's time.
+//! - `bench stack`: how deep each case goes.
+//! - `bench calls token|peer|mbedtls`: each case twice, for an instruction count of what is called inside `counted`; with mbedTLS the hashes.
+//! - `bench version`: mbedTLS's.
 
 mod calls;
 mod cases;
@@ -12,24 +14,34 @@ mod placed;
 mod stack;
 mod times;
 
-use calls::{repeat, Desk, Outputs};
+use calls::{repeat, repeat_mbedtls, Desk, Outputs};
 use cases::Case;
-use entries::{peer, token, Entries};
+use entries::{mbedtls_version, peer, token, Entries};
+
+/// A number that there may be none of.
+fn told(number: Option<f64>, places: usize) -> String {
+    number.map_or(String::new(), |number| format!("{:.*}", places, number))
+}
 
 fn print_times(desk: &Desk, cases: &mut [Case]) {
-    println!("case\ttoken ns\tpeer ns\ttoken / peer\tfloor ns");
+    println!("case\ttoken ns\tpeer ns\ttoken / peer\tfloor ns\tmbedtls ns\ttoken / mbedtls");
     let measured = times::measure(desk, cases);
     for (case, times) in cases.iter().zip(measured) {
-        let floor = times.floor.map_or(String::new(), |ns| format!("{:.1}", ns));
         println!(
-            "{}\t{:.1}\t{:.1}\t{:.3}\t{}",
-            case.name, times.token, times.peer, times.ratio, floor
+            "{}\t{:.1}\t{:.1}\t{:.3}\t{}\t{}\t{}",
+            case.name,
+            times.token,
+            times.peer,
+            times.ratio,
+            told(times.floor, 1),
+            told(times.mbedtls, 1),
+            told(times.mbedtls_ratio, 3)
         );
     }
 }
 
 fn print_stack(desk: &Desk, cases: &[Case]) {
-    println!("case\ttoken bytes\tpeer bytes");
+    println!("case\ttoken bytes\tpeer bytes\tmbedtls bytes");
     for case in cases {
         let depth = |entries: Entries| {
             let mut out = Outputs::new();
@@ -37,24 +49,46 @@ fn print_stack(desk: &Desk, cases: &[Case]) {
                 repeat(&entries, desk, &case.call, &mut out, 1);
             })
         };
-        println!("{}\t{}\t{}", case.name, depth(token()), depth(peer()));
+        let (token, peer) = (depth(token()), depth(peer()));
+        let mbedtls = if case.is_hash() {
+            let mut out = Outputs::new();
+            let depth = stack::depth_of(|| {
+                repeat_mbedtls(&case.call, &mut out, 1);
+            });
+            depth.to_string()
+        } else {
+            String::new()
+        };
+        println!("{}\t{}\t{}\t{}", case.name, token, peer, mbedtls);
     }
 }
 
 /// One call, whose end a profiler can be told to wait for.
 #[inline(never)]
 #[no_mangle]
-fn counted(entries: &Entries, desk: &Desk, case: &Case, out: &mut Outputs) -> u32 {
-    repeat(entries, desk, &case.call, out, 1)
+fn counted(call: &mut dyn FnMut() -> u32) -> u32 {
+    call()
+}
+
+fn call_twice(case: &Case, mut call: impl FnMut(&mut Outputs) -> u32) {
+    let mut out = Outputs::new();
+    for _ in 0..2 {
+        let gave = counted(&mut || call(&mut out));
+        assert_eq!(gave, case.refusal, "{}", case.name);
+    }
 }
 
 fn call_all(entries: &Entries, desk: &Desk, cases: &[Case]) {
     for case in cases {
-        let mut out = Outputs::new();
-        for _ in 0..2 {
-            let gave = counted(entries, desk, case, &mut out);
-            assert_eq!(gave, case.refusal, "{}", case.name);
-        }
+        call_twice(case, |out| repeat(entries, desk, &case.call, out, 1));
+    }
+}
+
+fn call_mbedtls(cases: &[Case]) {
+    for case in cases.iter().filter(|case| case.is_hash()) {
+        call_twice(case, |out| {
+            repeat_mbedtls(&case.call, out, 1).expect("a hash")
+        });
     }
 }
 
@@ -71,8 +105,10 @@ fn main() {
         ["stack"] => print_stack(&desk, &cases),
         ["calls", "token"] => call_all(&token(), &desk, &cases),
         ["calls", "peer"] => call_all(&peer(), &desk, &cases),
+        ["calls", "mbedtls"] => call_mbedtls(&cases),
+        ["version"] => println!("{}", mbedtls_version()),
         _ => {
-            eprintln!("usage: bench [stack | calls token|peer]");
+            eprintln!("usage: bench [stack | calls token|peer|mbedtls | version]");
             std::process::exit(2);
         }
     }

@@ -17,12 +17,14 @@ pub enum Role {
     Command,
     Draft,
     Certificate,
-    Mixed,
     KeyId,
     Username,
     Content,
     Handles,
     CommandOut,
+    First,
+    Second,
+    Joined,
 }
 
 impl Role {

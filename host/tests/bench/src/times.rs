@@ -1,9 +1,9 @@
-//! Times: medians of batches that take turns, in rounds through all cases, so that a while in which the machine is slow falls on both sides of a
+//! Times: medians of batches that take turns, in rounds through all cases, so that a while in which the machine is slow falls on all sides of a
 //! case alike, and on a part of its batches only. In each round the buffers lie elsewhere, and so does the stack.
 
-use crate::calls::{repeat, Desk, Outputs};
+use crate::calls::{repeat, repeat_mbedtls, Desk, Outputs};
 use crate::cases::Case;
-use crate::entries::{copier, peer, token, Entries};
+use crate::entries::{copier, peer, token};
 use crate::placed::Placed;
 use crate::stack;
 use std::time::{Duration, Instant};
@@ -18,25 +18,31 @@ const BATCH: Duration = Duration::from_micros(250);
 enum Runner {
     Token,
     Peer,
+    Mbedtls,
     Floor,
 }
+
+const RUNNERS: usize = 4;
 
 /// A case on the clock: how many calls make a batch, and how many nanoseconds a call took in each.
 struct Clocked<'a> {
     desk: &'a Desk,
     case: &'a mut Case,
     copied: Vec<Placed>,
-    batch: [u32; 3],
-    spent: [Vec<f64>; 3],
+    batch: [u32; RUNNERS],
+    spent: [Vec<f64>; RUNNERS],
 }
 
-/// Nanoseconds of a call. The ratio is the median of the turns' ratios, which is steadier than that of the medians.
+/// Nanoseconds of a call. A ratio is the median of the turns' ratios, which is steadier than that of the medians.
 pub struct Times {
     pub token: f64,
     pub peer: f64,
     pub ratio: f64,
     /// Nothing where nothing is copied.
     pub floor: Option<f64>,
+    /// Nothing where nothing but a hash is asked for.
+    pub mbedtls: Option<f64>,
+    pub mbedtls_ratio: Option<f64>,
 }
 
 pub fn measure(desk: &Desk, cases: &mut [Case]) -> Vec<Times> {
@@ -63,8 +69,8 @@ impl<'a> Clocked<'a> {
             desk,
             copied: case.goes_through(desk),
             case,
-            batch: [16; 3],
-            spent: [Vec::new(), Vec::new(), Vec::new()],
+            batch: [16; RUNNERS],
+            spent: Default::default(),
         };
         for runner in clocked.runners(0) {
             clocked.fit_batch(runner, out);
@@ -75,9 +81,11 @@ impl<'a> Clocked<'a> {
     /// Who takes part in a turn, and in what order.
     fn runners(&self, turn: usize) -> Vec<Runner> {
         let mut runners = vec![Runner::Token, Runner::Peer];
-        if turn % 2 == 1 {
-            runners.swap(0, 1);
+        if self.case.is_hash() {
+            runners.push(Runner::Mbedtls);
         }
+        let first = turn % runners.len();
+        runners.rotate_left(first);
         if !self.copied.is_empty() {
             runners.push(Runner::Floor);
         }
@@ -94,15 +102,24 @@ impl<'a> Clocked<'a> {
     fn clock(&self, runner: Runner, out: &mut Outputs) -> Duration {
         let times = self.batch[runner as usize];
         match runner {
-            Runner::Token => self.calls(&token(), out, times),
-            Runner::Peer => self.calls(&peer(), out, times),
+            Runner::Token => {
+                let token = token();
+                self.calls(|| repeat(&token, self.desk, &self.case.call, out, times))
+            }
+            Runner::Peer => {
+                let peer = peer();
+                self.calls(|| repeat(&peer, self.desk, &self.case.call, out, times))
+            }
+            Runner::Mbedtls => {
+                self.calls(|| repeat_mbedtls(&self.case.call, out, times).expect("a hash"))
+            }
             Runner::Floor => self.copies(out, times),
         }
     }
 
-    fn calls(&self, entries: &Entries, out: &mut Outputs, times: u32) -> Duration {
+    fn calls(&self, repeated: impl FnOnce() -> u32) -> Duration {
         let start = Instant::now();
-        let gave = repeat(entries, self.desk, &self.case.call, out, times);
+        let gave = repeated();
         let took = start.elapsed();
         assert_eq!(gave, self.case.refusal, "{}", self.case.name);
         took
@@ -144,15 +161,15 @@ impl<'a> Clocked<'a> {
     }
 
     fn times(&self) -> Times {
-        let [token, peer, floor] = &self.spent;
-        let ratios = token.iter().zip(peer).map(|(token, peer)| token / peer);
+        let [token, peer, mbedtls, floor] = &self.spent;
+        let ratios = |of: &[f64]| token.iter().zip(of).map(|(token, of)| token / of).collect();
         Times {
-            ratio: median(ratios.collect()),
+            ratio: median(ratios(peer)),
             token: median(token.clone()),
             peer: median(peer.clone()),
-            floor: Some(floor.clone())
-                .filter(|floor| !floor.is_empty())
-                .map(median),
+            floor: median_of_any(floor.clone()),
+            mbedtls: median_of_any(mbedtls.clone()),
+            mbedtls_ratio: median_of_any(ratios(mbedtls)),
         }
     }
 }
@@ -160,4 +177,11 @@ impl<'a> Clocked<'a> {
 fn median(mut numbers: Vec<f64>) -> f64 {
     numbers.sort_by(f64::total_cmp);
     numbers[numbers.len() / 2]
+}
+
+/// Nothing where there are none.
+fn median_of_any(numbers: Vec<f64>) -> Option<f64> {
+    Some(numbers)
+        .filter(|numbers| !numbers.is_empty())
+        .map(median)
 }

@@ -1,8 +1,9 @@
 //! Document 01's two afternoons: a holder's calls are made again among fewer of the others' calls,
-//! and must be answered as before.
+//! and must be answered as before. A holder is the hash of access token and AppID.
 
 use crate::calls::CommandCall;
 use crate::check::{fail, Checked, Checker, Wrote};
+use crate::form;
 use crate::gen_table::{decode, Record, MOST_RECORDS};
 use crate::properties;
 use crate::rng::Rng;
@@ -11,13 +12,24 @@ use uaf_peer::Answer;
 
 /// A call of an afternoon, with what it wrote or its refusal.
 pub struct Step {
-    pub call: CommandCall,
-    pub answer: Result<Wrote, u32>,
+    call: CommandCall,
+    answer: Result<Wrote, u32>,
+    /// Whose call it is, if it is anybody's.
+    holder: Option<[u8; 32]>,
 }
 
 impl Step {
+    pub fn new(call: CommandCall, answer: Result<Wrote, u32>) -> Step {
+        let holder = form::mixed_of(&call.command);
+        Step {
+            call,
+            answer,
+            holder,
+        }
+    }
+
     fn is_of(&self, holder: &[u8; 32]) -> bool {
-        self.call.lent.mixed[..] == holder[..]
+        self.holder.as_ref() == Some(holder)
     }
 
     fn registers(&self) -> bool {

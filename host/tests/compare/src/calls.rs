@@ -18,11 +18,9 @@ pub struct LentBytes {
     pub metadata: Vec<u8>,
     pub verdict: u32,
     pub display: u32,
-    pub mixed: Vec<u8>,
     pub key_id: Vec<u8>,
     pub public_key: Vec<u8>,
     pub nonce: Vec<u8>,
-    pub hash: Vec<u8>,
 }
 
 impl LentBytes {
@@ -37,11 +35,9 @@ impl LentBytes {
             },
             verdict: self.verdict,
             display: self.display,
-            mixed: &self.mixed,
             key_id: &self.key_id,
             public_key: &self.public_key,
             nonce: &self.nonce,
-            hash: &self.hash,
         }
     }
 }
@@ -149,11 +145,9 @@ impl Display for CommandCall {
         writeln!(f, "  metadata            {}", Hex(&lent.metadata))?;
         writeln!(f, "  verdict             {}", lent.verdict)?;
         writeln!(f, "  display             {}", lent.display)?;
-        writeln!(f, "  mixed               {}", Hex(&lent.mixed))?;
         writeln!(f, "  key_id              {}", Hex(&lent.key_id))?;
         writeln!(f, "  public_key          {}", Hex(&lent.public_key))?;
         writeln!(f, "  nonce               {}", Hex(&lent.nonce))?;
-        writeln!(f, "  hash                {}", Hex(&lent.hash))?;
         writeln!(f, "  table               {}", Hex(&self.table))?;
         writeln!(f, "  response_size       {}", self.response_size)?;
         writeln!(f, "  table_out_size      {}", self.table_out_size)

@@ -1,6 +1,7 @@
 //! Makes each call on the token and on the independent implementation and compares all that they
 //! answer and all that they leave.
 
+use crate::answered;
 use crate::calls::{CommandCall, CompleteCall, Expect, Hex, WriteCall};
 use crate::outcome;
 use crate::output::Output;
@@ -13,6 +14,7 @@ use std::ops::Range;
 use std::panic::{catch_unwind, AssertUnwindSafe};
 use uaf_peer::{Answer, Fields, Refusal, Served, MOST_FIELDS};
 use uaf_token::raw::{self, CommandNumbers, FieldNumbers, PartNumbers};
+use uaf_token::HASH_SIZE;
 
 /// What disagreed, and the whole call with both results.
 pub struct Mismatch {
@@ -175,6 +177,7 @@ pub struct Checker {
     response: Output,
     table: Output,
     command: Output,
+    hash: Output,
 }
 
 impl Checker {
@@ -185,6 +188,7 @@ impl Checker {
             response: Output::default(),
             table: Output::default(),
             command: Output::default(),
+            hash: Output::default(),
         }
     }
 
@@ -252,7 +256,7 @@ impl Checker {
         let asked = outcome::asked(&call.command);
         self.counts
             .add(Entry::Command, asked, outcome::of_command(&answer));
-        match properties::of_command(&mut self.counts, call, &answer, expect) {
+        match answered::of_command(&mut self.counts, call, &answer, expect) {
             Err(what) => fail(what, self.show_command(call, &token, &peer)),
             Ok(()) => Ok(answer),
         }
@@ -336,6 +340,38 @@ impl Checker {
         };
         let peer = as_entry(before, by_peer, |length| length)?;
         Ok(((refusal, length), peer))
+    }
+
+    /// The hash of two stretches.
+    pub fn hash(&mut self, first: &[u8], second: &[u8]) -> Checked<[u8; HASH_SIZE]> {
+        let kept = (first.to_vec(), second.to_vec());
+        self.hash.prepare(&mut self.rng, HASH_SIZE);
+        let output = self.hash.token().try_into().expect("its size");
+        raw::hash(first, second, output);
+        let by_peer = catch_unwind(|| uaf_peer::hash(&kept.0, &kept.1));
+        let show = || {
+            format!(
+                "uaf_hash\n  first  {}\n  second {}\n",
+                Hex(first),
+                Hex(second)
+            )
+        };
+        match by_peer {
+            Ok(hash) => self.hash.peer().copy_from_slice(&hash),
+            Err(_) => return fail("the peer panicked".into(), show()),
+        }
+        let fault = self.hash.fault("hash", HASH_SIZE);
+        let fault = fault.or_else(|| changed((first, second) != (&kept.0[..], &kept.1[..])));
+        if let Some(what) = fault {
+            let token = self.hash.token_hex(HASH_SIZE);
+            let peer = self.hash.peer_hex(HASH_SIZE);
+            return fail(what, show() + &both(&token, &peer));
+        }
+        let filled = usize::from(!first.is_empty()) + 2 * usize::from(!second.is_empty());
+        let stretches = report::STRETCHES[filled];
+        self.counts.add(Entry::Hash, stretches, Outcome::Hash);
+        let hash = self.hash.written(HASH_SIZE);
+        Ok(hash.try_into().expect("its size"))
     }
 
     /// A writer. Gives the command, or nothing after a refusal.

@@ -1,16 +1,18 @@
 //! Seeds for the fuzz targets, right calls and calls with one fault, in the form that the comments of
-//! `host/fuzz/command.c`, `complete.c` and `signed_part.c` describe.
+//! `host/fuzz/command.c`, `complete.c`, `signed_part.c` and `hash.c` describe.
 
 use crate::calls::LentBytes;
 use crate::follow;
-use crate::gen_command::{self, Scene};
+use crate::gen_command;
 use crate::gen_draft::{self, REGISTRATION, SIGN};
+use crate::gen_holder::Holder;
 use crate::gen_lent;
 use crate::gen_response;
 use crate::gen_table::{Record, MOST_OWN, MOST_RECORDS};
 use crate::rng::Rng;
+use crate::scene::Scene;
 use crate::singles;
-use crate::tlv;
+use crate::tlv::{self, Child};
 use std::fs;
 use std::io;
 use std::path::Path;
@@ -26,17 +28,46 @@ const MEND_COMMAND: u8 = 1;
 const MEND: u8 = 2;
 /// The first of a call's five flags for numbers that are changed in 32 bits.
 const CHANGED: u8 = 2;
+/// A call's flags: the holder's access token, its AppID is put behind the command's children.
+const PUT_TOKEN: u8 = 64;
+const PUT_APP_ID: u8 = 128;
 /// The byte that fills lent stretches, and by which the profile's numbers are made, as in command.c.
 const FILL: u8 = 0x40;
 const VERSION: u32 = FILL as u32 * 257;
+const TOKEN: usize = 32;
 
-/// A KeyID or mixed token by its number, as `numbered` in command.c.
+/// A KeyID by its number, as `numbered` in command.c.
 fn numbered(number: u8) -> [u8; 32] {
     let mut bytes = [number & 0x0F; 32];
     if number >> 4 != 0 {
         bytes[usize::from(number >> 4) * 2 + 1] ^= 0x10;
     }
     bytes
+}
+
+/// The AppIDs' lengths, as in command.c; 0 is a missing one.
+const APP_IDS: [usize; 14] = [0, 1, 2, 23, 24, 31, 32, 33, 87, 88, 95, 96, 511, 512];
+
+/// A holder by its number, as `holder_by` in command.c.
+fn holder(number: u8) -> Holder {
+    let length = APP_IDS[usize::from(number >> 4) % APP_IDS.len()];
+    let app_id = (0..length).map(|i| b'a' + (i % 26) as u8).collect();
+    Holder {
+        token: [number & 0x0F; 32],
+        app_id: Some(app_id).filter(|app_id: &Vec<u8>| !app_id.is_empty()),
+    }
+}
+
+/// The AppID's number by which a record has the holder's hash but for one bit.
+const NEARLY: u8 = 0x0E;
+
+/// The mixed token of a record, as `put_mixed` in command.c.
+fn mixed(number: u8) -> [u8; 32] {
+    let mut mixed = holder(number).mixed();
+    if number >> 4 == NEARLY {
+        mixed[31] ^= 1;
+    }
+    mixed
 }
 
 /// A record of the fuzz input: KeyID, holder, name of one letter, counter.
@@ -57,7 +88,7 @@ impl Row {
     fn record(&self) -> Record {
         Record {
             key_id: numbered(self.key),
-            mixed: numbered(self.holder),
+            mixed: mixed(self.holder),
             name: vec![b'a'; self.name.into()],
             counter: self.counter,
         }
@@ -76,7 +107,9 @@ fn rows(rng: &mut Rng) -> Vec<Row> {
     for key in 0..number {
         // Enough holders that nobody gets over eight.
         let holder = loop {
-            let holder = rng.below(number / MOST_OWN + 2) as u8;
+            let token = rng.below(number / MOST_OWN + 2) as u8;
+            let app_id = rng.pick(&[0, 0, 1, 2, 4, 6, 8, 13, NEARLY]);
+            let holder = app_id << 4 | token;
             if rows.iter().filter(|row| row.holder == holder).count() < MOST_OWN {
                 break holder;
             }
@@ -143,21 +176,21 @@ fn changes(lent: &LentBytes) -> (u8, Vec<u8>) {
 }
 
 /// A call's part of the input: flags, numbers, sizes, the command.
-fn call_bytes(holder: u8, key: u8, lent: &LentBytes, command: &[u8]) -> Vec<u8> {
+fn call_bytes(put: u8, holder: u8, key: u8, lent: &LentBytes, command: &[u8]) -> Vec<u8> {
     let (flags, bits) = changes(lent);
-    let mut bytes = vec![MEND_COMMAND | flags, lent.verdict as u8, lent.display as u8];
+    let flags = MEND_COMMAND | put | flags;
+    let mut bytes = vec![flags, lent.verdict as u8, lent.display as u8];
     bytes.extend([holder, key, FILL]);
     bytes.extend(bits);
     let stretches = [
         &lent.aaid,
         &lent.metadata,
-        &lent.mixed,
         &lent.key_id,
         &lent.nonce,
-        &lent.hash,
         &lent.public_key,
     ];
     bytes.extend(stretches.iter().map(|stretch| size_code(stretch.len())));
+    bytes.push(size_code(TOKEN));
     // Outputs of the least size, and no filler.
     bytes.extend([0, 0, 0]);
     bytes.extend((command.len() as u16).to_le_bytes());
@@ -165,16 +198,36 @@ fn call_bytes(holder: u8, key: u8, lent: &LentBytes, command: &[u8]) -> Vec<u8> 
     bytes
 }
 
-fn call(rng: &mut Rng, records: &[Record], holders: u8) -> Vec<u8> {
+/// Leaves token and AppID away, to be put in by the target.
+fn leave_to_target(children: &mut Vec<Child>) -> u8 {
+    let mut put = 0;
+    children.retain(|child| {
+        let flag = match child.tag {
+            tlv::ACCESS_TOKEN => PUT_TOKEN,
+            tlv::APPID => PUT_APP_ID,
+            _ => return true,
+        };
+        put |= flag;
+        false
+    });
+    put
+}
+
+fn call(rng: &mut Rng, rows: &[Row], records: &[Record]) -> Vec<u8> {
     let kind = singles::some_kind(rng);
-    let holder = rng.below(usize::from(holders) + 1) as u8;
-    let scene = Scene {
-        records: records.to_vec(),
-        mixed: numbered(holder),
+    let number = match rows.len() {
+        0 => rng.below(6) as u8,
+        rows_there => rows[rng.below(rows_there)].holder,
     };
+    let scene = Scene::new(records.to_vec(), holder(number));
     let mut children = gen_command::right(rng, kind, &scene);
     let key = rng.below(records.len() + 4) as u8;
-    let mut lent = gen_lent::right(rng, &scene.mixed, &numbered(key));
+    let mut lent = gen_lent::right(rng, &numbered(key));
+    let put = if rng.one_in(2) {
+        leave_to_target(&mut children)
+    } else {
+        0
+    };
     match rng.below(8) {
         0 => {
             gen_command::spoil(rng, kind, &mut children);
@@ -185,18 +238,17 @@ fn call(rng: &mut Rng, records: &[Record], holders: u8) -> Vec<u8> {
         _ => {}
     }
     let command = tlv::holding(kind.tag(), &children);
-    call_bytes(holder, key, &lent, &command)
+    call_bytes(put, number, key, &lent, &command)
 }
 
 fn command_seed(rng: &mut Rng) -> Vec<u8> {
     let rows = rows(rng);
     let records: Vec<Record> = rows.iter().map(Row::record).collect();
-    let holders = rows.iter().map(|row| row.holder).max().unwrap_or(0);
     let mut bytes = vec![front(rng) | BY_RECORDS];
     bytes.extend((rows.len() as u16 * 8).to_le_bytes());
     bytes.extend(rows.iter().flat_map(Row::encode));
     for _ in 0..rng.between(1, 4) {
-        bytes.extend(call(rng, &records, holders));
+        bytes.extend(call(rng, &rows, &records));
     }
     bytes
 }
@@ -234,6 +286,16 @@ fn reader_seed(rng: &mut Rng) -> Vec<u8> {
     bytes
 }
 
+/// Where the bytes are parted, then the bytes.
+fn hash_seed(rng: &mut Rng) -> Vec<u8> {
+    let length = rng.pick(&[0, 1, 3, 55, 56, 63, 64, 65, 119, 120, 128, 544]);
+    let place = rng.below(length + 1) as u16;
+    let mut bytes = vec![front(rng)];
+    bytes.extend(place.to_le_bytes());
+    bytes.extend(rng.bytes(length));
+    bytes
+}
+
 fn write_some(
     directory: &Path,
     target: &str,
@@ -251,10 +313,11 @@ fn write_some(
     Ok(())
 }
 
-/// Writes a directory of seeds for each of the four targets.
+/// Writes a directory of seeds for each target but `write`, which needs none.
 pub fn write(directory: &Path, seed: u64) -> io::Result<()> {
     write_some(directory, "command", seed, command_seed)?;
     write_some(directory, "complete", seed, complete_seed)?;
     write_some(directory, "signed_part", seed, reader_seed)?;
-    write_some(directory, "read_fields", seed, reader_seed)
+    write_some(directory, "read_fields", seed, reader_seed)?;
+    write_some(directory, "hash", seed, hash_seed)
 }

@@ -1,9 +1,10 @@
 //! Commands: some that obey the rules under "TLV bytes", and some that are certain to break one.
 
+use crate::gen_holder::MOST_APP_ID;
 use crate::gen_name;
-use crate::gen_table::{near, Record};
 use crate::nests;
 use crate::rng::Rng;
+use crate::scene::Scene;
 use crate::tlv::{self, Child, Kind, CRITICAL};
 
 /// The greatest command.
@@ -44,7 +45,7 @@ const REGISTER: [Rule; 7] = [
     mandatory(tlv::CHALLENGE_HASH, 1, 32),
     mandatory(tlv::USERNAME, 1, 128),
     mandatory(tlv::ATTESTATION_TYPE, 2, 2),
-    mandatory(tlv::ACCESS_TOKEN, 1, 32),
+    mandatory(tlv::ACCESS_TOKEN, 32, 32),
     optional(tlv::USERVERIFY_TOKEN, 0, ANY),
 ];
 const SIGN: [Rule; 6] = [
@@ -52,14 +53,14 @@ const SIGN: [Rule; 6] = [
     optional(tlv::APPID, 1, 512),
     mandatory(tlv::CHALLENGE_HASH, 1, 32),
     optional(tlv::TRANSACTION_CONTENT, 0, ANY),
-    mandatory(tlv::ACCESS_TOKEN, 1, 32),
+    mandatory(tlv::ACCESS_TOKEN, 32, 32),
     optional(tlv::USERVERIFY_TOKEN, 0, ANY),
 ];
 const DEREGISTER: [Rule; 4] = [
     mandatory(tlv::INDEX, 1, 1),
     optional(tlv::APPID, 1, 512),
     mandatory(tlv::KEYID, 0, 32),
-    mandatory(tlv::ACCESS_TOKEN, 1, 32),
+    mandatory(tlv::ACCESS_TOKEN, 32, 32),
 ];
 const OPEN_SETTINGS: [Rule; 1] = [mandatory(tlv::INDEX, 1, 1)];
 
@@ -77,58 +78,6 @@ fn lists(kind: Kind, tag: u16) -> bool {
     rules(kind).iter().any(|rule| rule.tag == tag) || (kind == Kind::Sign && tag == tlv::KEYHANDLE)
 }
 
-/// Who calls on which table.
-pub struct Scene {
-    pub records: Vec<Record>,
-    pub mixed: [u8; 32],
-}
-
-impl Scene {
-    /// A caller of the table: mostly one of its holders.
-    pub fn new(rng: &mut Rng, records: Vec<Record>) -> Scene {
-        let mixed = if records.is_empty() || rng.one_in(8) {
-            rng.array()
-        } else {
-            let holder = records[rng.below(records.len())].mixed;
-            if rng.one_in(12) {
-                near(rng, &holder)
-            } else {
-                holder
-            }
-        };
-        Scene { records, mixed }
-    }
-
-    /// A KeyID to ask for: the caller's own, a stranger's, one that is nobody's or nearly one.
-    pub fn key_id(&self, rng: &mut Rng) -> [u8; 32] {
-        let all: Vec<[u8; 32]> = self.records.iter().map(|r| r.key_id).collect();
-        let own: Vec<[u8; 32]> = self
-            .records
-            .iter()
-            .filter(|r| r.mixed == self.mixed)
-            .map(|r| r.key_id)
-            .collect();
-        match rng.below(10) {
-            0..=5 if !own.is_empty() => rng.pick(&own),
-            6 if !own.is_empty() => {
-                let key_id = rng.pick(&own);
-                near(rng, &key_id)
-            }
-            0..=8 if !all.is_empty() => rng.pick(&all),
-            _ => rng.array(),
-        }
-    }
-
-    /// A KeyID for Register: mostly new.
-    pub fn new_key_id(&self, rng: &mut Rng) -> [u8; 32] {
-        if rng.percent(15) {
-            self.key_id(rng)
-        } else {
-            rng.array()
-        }
-    }
-}
-
 /// A type that a Register may give: mostly one of the two that it supports.
 pub fn attestation_type(rng: &mut Rng) -> u16 {
     match rng.below(10) {
@@ -144,6 +93,8 @@ fn right_value(rng: &mut Rng, rule: &Rule, scene: &Scene) -> Vec<u8> {
         tlv::INDEX => vec![0],
         tlv::ATTESTATION_TYPE => attestation_type(rng).to_le_bytes().to_vec(),
         tlv::USERNAME => gen_name::right(rng),
+        tlv::ACCESS_TOKEN => scene.holder.token.to_vec(),
+        tlv::APPID => scene.holder.app_id.clone().unwrap_or_default(),
         tlv::KEYID if rng.percent(20) => Vec::new(),
         tlv::KEYID => scene.key_id(rng).to_vec(),
         _ => {
@@ -173,11 +124,16 @@ pub fn handles(rng: &mut Rng, scene: &Scene) -> Vec<Child> {
     handles
 }
 
-/// Children that the command lists, of allowed lengths, in a random order.
+/// Children that the command lists, of allowed lengths, in a random order. Access token and AppID are
+/// the caller's.
 pub fn listed(rng: &mut Rng, kind: Kind, scene: &Scene) -> Vec<Child> {
     let mut children = Vec::new();
     for rule in rules(kind) {
-        if rule.mandatory || rng.one_in(2) {
+        let given = match rule.tag {
+            tlv::APPID => scene.holder.app_id.is_some(),
+            _ => rule.mandatory || rng.one_in(2),
+        };
+        if given {
             children.push(Child::new(rule.tag, right_value(rng, rule, scene)));
         }
     }
@@ -235,6 +191,8 @@ pub fn right(rng: &mut Rng, kind: Kind, scene: &Scene) -> Vec<Child> {
 enum Fault {
     Missing,
     Length,
+    Token,
+    Shifted,
     Index,
     Repeated,
     Critical,
@@ -247,9 +205,11 @@ enum Fault {
     TooLong,
 }
 
-const FAULTS: [Fault; 12] = [
+const FAULTS: [Fault; 14] = [
     Fault::Missing,
     Fault::Length,
+    Fault::Token,
+    Fault::Shifted,
     Fault::Index,
     Fault::Repeated,
     Fault::Critical,
@@ -292,7 +252,10 @@ fn wrong_length_of(rng: &mut Rng, rule: &Rule) -> usize {
 }
 
 fn resize(rng: &mut Rng, kind: Kind, children: &mut Vec<Child>) -> Option<&'static str> {
-    let limited: Vec<&Rule> = rules(kind).iter().filter(|r| r.greatest != ANY).collect();
+    let limited: Vec<&Rule> = rules(kind)
+        .iter()
+        .filter(|r| r.greatest != ANY && r.tag != tlv::ACCESS_TOKEN)
+        .collect();
     if limited.is_empty() {
         return None;
     }
@@ -310,6 +273,40 @@ fn resize(rng: &mut Rng, kind: Kind, children: &mut Vec<Child>) -> Option<&'stat
         None => insert(rng, children, Child::new(rule.tag, value)),
     }
     Some("body: child's length")
+}
+
+const TOKENS: [(usize, &str); 6] = [
+    (0, "body: access token of 0"),
+    (1, "body: access token of 1"),
+    (31, "body: access token of 31"),
+    (33, "body: access token of 33"),
+    (2, "body: access token of another length"),
+    (64, "body: access token of another length"),
+];
+
+fn resize_token(rng: &mut Rng, children: &mut [Child]) -> Option<&'static str> {
+    let i = place_of(children, tlv::ACCESS_TOKEN)?;
+    let (length, what) = rng.pick(&TOKENS);
+    children[i].value.resize(length, 0);
+    Some(what)
+}
+
+/// One byte more of the two belongs to the AppID, or to the token: run together they are the same.
+fn shift_token(rng: &mut Rng, children: &mut [Child]) -> Option<&'static str> {
+    let token = place_of(children, tlv::ACCESS_TOKEN)?;
+    let app_id = place_of(children, tlv::APPID)?;
+    let length = children[app_id].value.len();
+    if length > 1 && rng.one_in(2) {
+        let first = children[app_id].value.remove(0);
+        children[token].value.push(first);
+        return Some("body: access token of 33, the AppID's first byte in it");
+    }
+    if length == MOST_APP_ID {
+        return None;
+    }
+    let last = children[token].value.pop()?;
+    children[app_id].value.insert(0, last);
+    Some("body: access token of 31, its last byte in the AppID")
 }
 
 fn change_index(rng: &mut Rng, children: &mut [Child]) -> Option<&'static str> {
@@ -440,6 +437,8 @@ fn spoil_by(
     match fault {
         Fault::Missing => leave_out(rng, kind, children),
         Fault::Length => resize(rng, kind, children),
+        Fault::Token => resize_token(rng, children),
+        Fault::Shifted => shift_token(rng, children),
         Fault::Index => change_index(rng, children),
         Fault::Repeated => repeat(rng, kind, children),
         Fault::Critical => add_critical(rng, kind, children),

@@ -14,14 +14,12 @@ pub enum Item {
     KeyAlgorithm,
     Verdict,
     Display,
-    Mixed,
     KeyId,
     PublicKey,
     Nonce,
-    Hash,
 }
 
-const ITEMS: [Item; 12] = [
+const ITEMS: [Item; 10] = [
     Item::Aaid,
     Item::Metadata,
     Item::Version,
@@ -29,14 +27,12 @@ const ITEMS: [Item; 12] = [
     Item::KeyAlgorithm,
     Item::Verdict,
     Item::Display,
-    Item::Mixed,
     Item::KeyId,
     Item::PublicKey,
     Item::Nonce,
-    Item::Hash,
 ];
 
-/// Document 01's list of what each command uses.
+/// Document 01's list of what each command uses, as amended.
 pub fn uses(kind: Kind, item: Item) -> bool {
     let profile = matches!(
         item,
@@ -44,27 +40,14 @@ pub fn uses(kind: Kind, item: Item) -> bool {
     );
     match kind {
         Kind::GetInfo => profile,
-        Kind::Register => {
-            profile
-                || matches!(
-                    item,
-                    Item::Verdict | Item::Mixed | Item::KeyId | Item::PublicKey
-                )
-        }
-        Kind::Sign => {
-            profile
-                || matches!(
-                    item,
-                    Item::Verdict | Item::Display | Item::Mixed | Item::Nonce | Item::Hash
-                )
-        }
-        Kind::Deregister => item == Item::Mixed,
-        Kind::OpenSettings => false,
+        Kind::Register => profile || matches!(item, Item::Verdict | Item::KeyId | Item::PublicKey),
+        Kind::Sign => profile || matches!(item, Item::Verdict | Item::Display | Item::Nonce),
+        Kind::Deregister | Kind::OpenSettings => false,
     }
 }
 
 /// Right for every command.
-pub fn right(rng: &mut Rng, mixed: &[u8; 32], key_id: &[u8; 32]) -> LentBytes {
+pub fn right(rng: &mut Rng, key_id: &[u8; 32]) -> LentBytes {
     let public_key = rng.length(1, 512);
     let nonce = rng.length(8, 32);
     LentBytes {
@@ -83,11 +66,9 @@ pub fn right(rng: &mut Rng, mixed: &[u8; 32], key_id: &[u8; 32]) -> LentBytes {
         } else {
             rng.between(1, 3) as u32
         },
-        mixed: mixed.to_vec(),
         key_id: key_id.to_vec(),
         public_key: rng.bytes(public_key),
         nonce: rng.bytes(nonce),
-        hash: rng.bytes(32),
     }
 }
 
@@ -168,11 +149,9 @@ pub fn spoil(rng: &mut Rng, lent: &mut LentBytes, item: Item) -> &'static str {
         Item::KeyAlgorithm => spoil_number(rng, &mut lent.key_algorithm, 0xFFFF, KEY_ALGORITHM),
         Item::Verdict => spoil_number(rng, &mut lent.verdict, 5, VERDICT),
         Item::Display => spoil_number(rng, &mut lent.display, 3, DISPLAY),
-        Item::Mixed => spoil_stretch(rng, &mut lent.mixed, (32, 32), "lent: mixed token's length"),
         Item::KeyId => spoil_stretch(rng, &mut lent.key_id, (32, 32), "lent: KeyID's length"),
         Item::PublicKey => spoil_stretch(rng, &mut lent.public_key, (1, 512), "lent: public key's length"),
         Item::Nonce => spoil_stretch(rng, &mut lent.nonce, (8, 32), "lent: nonce's length"),
-        Item::Hash => spoil_stretch(rng, &mut lent.hash, (32, 32), "lent: hash's length"),
     }
 }
 
@@ -186,11 +165,34 @@ pub fn spoil_used(rng: &mut Rng, lent: &mut LentBytes, kind: Kind) -> Option<&'s
     Some(spoil(rng, lent, item))
 }
 
-/// Spoils what the command does not use, which must change nothing.
+/// Spoils some or all of what the command does not use, which must change nothing.
 pub fn spoil_unused(rng: &mut Rng, lent: &mut LentBytes, kind: Kind) {
+    let all = rng.one_in(4);
     for item in ITEMS {
-        if !uses(kind, item) && rng.one_in(2) {
+        if !uses(kind, item) && (all || rng.one_in(2)) {
             spoil(rng, lent, item);
         }
     }
+}
+
+/// Whether each item is wrong.
+pub fn nothing_right(lent: &LentBytes) -> bool {
+    let sizes = [
+        (&lent.aaid, 9, 9),
+        (&lent.metadata, 15, 15),
+        (&lent.key_id, 32, 32),
+        (&lent.public_key, 1, 512),
+        (&lent.nonce, 8, 32),
+    ];
+    let numbers = [
+        (lent.version, 0xFFFF),
+        (lent.signature_algorithm, 0xFFFF),
+        (lent.key_algorithm, 0xFFFF),
+        (lent.verdict, 5),
+        (lent.display, 3),
+    ];
+    sizes
+        .iter()
+        .all(|&(bytes, least, greatest)| bytes.len() < least || bytes.len() > greatest)
+        && numbers.iter().all(|&(number, greatest)| number > greatest)
 }

@@ -1,5 +1,6 @@
 //! Tables: some that obey document 01's rules, and stored forms that are certain to break one.
 
+use crate::gen_holder::{self, Holder};
 use crate::gen_name::{self, MOST_NAME};
 use crate::rng::Rng;
 use crate::tlv::{self, Child};
@@ -69,19 +70,24 @@ pub fn near(rng: &mut Rng, bytes: &[u8; 32]) -> [u8; 32] {
     other
 }
 
-/// Mixed tokens, now and then one bit apart.
-pub fn holders(rng: &mut Rng, number: usize) -> Vec<[u8; 32]> {
-    let mut holders: Vec<[u8; 32]> = Vec::new();
-    while holders.len() < number {
-        let next = match holders.last() {
-            Some(last) if rng.one_in(4) => near(rng, last),
-            _ => rng.array(),
+/// So many different mixed tokens, first the holders', then some that are nearly so or nobody's.
+fn mixed_tokens(rng: &mut Rng, holders: &[Holder], number: usize) -> Vec<[u8; 32]> {
+    let mut tokens: Vec<[u8; 32]> = holders.iter().map(Holder::mixed).collect();
+    tokens.truncate(number);
+    while tokens.len() < number {
+        let next = match tokens.last() {
+            Some(last) if rng.one_in(6) => near(rng, last),
+            _ if holders.is_empty() || rng.one_in(3) => rng.array(),
+            _ => {
+                let one = &holders[rng.below(holders.len())];
+                rng.pick(&gen_holder::nearly(one))
+            }
         };
-        if !holders.contains(&next) {
-            holders.push(next);
+        if !tokens.contains(&next) {
+            tokens.push(next);
         }
     }
-    holders
+    tokens
 }
 
 fn fresh_key_id(rng: &mut Rng, records: &[Record]) -> [u8; 32] {
@@ -120,13 +126,13 @@ fn own_of(records: &[Record], mixed: &[u8; 32]) -> usize {
     records.iter().filter(|r| r.mixed == *mixed).count()
 }
 
-/// So many records, at most eight of any holder.
-pub fn records(rng: &mut Rng, number: usize) -> Vec<Record> {
+/// So many records of the holders and of others, at most eight of any.
+pub fn records(rng: &mut Rng, holders: &[Holder], number: usize) -> Vec<Record> {
     let more = rng.below(4);
-    let holders = holders(rng, number / MOST_OWN + 1 + more);
+    let tokens = mixed_tokens(rng, holders, number / MOST_OWN + 1 + more);
     let mut records = Vec::new();
     while records.len() < number {
-        let mixed = rng.pick(&holders);
+        let mixed = rng.pick(&tokens);
         if own_of(&records, &mixed) < MOST_OWN {
             let next = record(rng, &records, mixed);
             records.push(next);
@@ -135,9 +141,9 @@ pub fn records(rng: &mut Rng, number: usize) -> Vec<Record> {
     records
 }
 
-/// One holder with so many records among others.
-fn with_own(rng: &mut Rng, own: usize) -> Vec<Record> {
-    let mixed = rng.array();
+/// The first holder, or nobody, with so many records among others.
+fn with_own(rng: &mut Rng, holders: &[Holder], own: usize) -> Vec<Record> {
+    let mixed = holders.first().map_or_else(|| rng.array(), Holder::mixed);
     let mut records = Vec::new();
     for _ in 0..own {
         let next = record(rng, &records, mixed);
@@ -145,7 +151,8 @@ fn with_own(rng: &mut Rng, own: usize) -> Vec<Record> {
     }
     let others = rng.below(MOST_RECORDS - own + 1);
     let others = rng.pick(&[0, others.min(3), others]);
-    let mut strangers = self::records(rng, others);
+    let mut strangers = self::records(rng, holders, others);
+    strangers.retain(|stranger| stranger.mixed != mixed);
     strangers.retain(|stranger| records.iter().all(|r| r.key_id != stranger.key_id));
     records.append(&mut strangers);
     rng.shuffle(&mut records);
@@ -154,32 +161,32 @@ fn with_own(rng: &mut Rng, own: usize) -> Vec<Record> {
 
 /// A table that obeys the rules: empty, small, large, full, with eight of one holder, with a last
 /// count, or of the greatest size.
-pub fn right(rng: &mut Rng) -> Vec<Record> {
+pub fn right(rng: &mut Rng, holders: &[Holder]) -> Vec<Record> {
     match rng.weighed(&[12, 30, 18, 10, 12, 4, 4, 10]) {
         0 => Vec::new(),
         1 => {
             let number = rng.between(1, 5);
-            records(rng, number)
+            records(rng, holders, number)
         }
         2 => {
             let number = rng.between(6, 30);
-            records(rng, number)
+            records(rng, holders, number)
         }
-        3 => records(rng, MOST_RECORDS),
+        3 => records(rng, holders, MOST_RECORDS),
         4 => {
             let own = rng.pick(&[1, 2, 7, 8, 8]);
-            with_own(rng, own)
+            with_own(rng, holders, own)
         }
-        5 => records(rng, MOST_RECORDS - 1),
+        5 => records(rng, holders, MOST_RECORDS - 1),
         6 => {
-            let mut full = records(rng, MOST_RECORDS);
+            let mut full = records(rng, holders, MOST_RECORDS);
             for record in &mut full {
                 record.name = gen_name::of_length(rng, MOST_NAME);
             }
             full
         }
         _ => {
-            let mut one = with_own(rng, 1);
+            let mut one = with_own(rng, holders, 1);
             for record in &mut one {
                 record.counter = u32::MAX;
             }
@@ -261,15 +268,15 @@ fn spoil_whole(rng: &mut Rng) -> (Vec<u8>, &'static str) {
     match rng.below(3) {
         0 => {
             let number = rng.pick(&[33, 33, 33, 34, 40]);
-            (encode(&records(rng, number)), "table: over 32 records")
+            (encode(&records(rng, &[], number)), "table: over 32 records")
         }
         1 => {
             let own = rng.pick(&[9, 9, 10, 16]);
-            (encode(&with_own(rng, own)), "table: nine of a holder")
+            (encode(&with_own(rng, &[], own)), "table: nine of a holder")
         }
         _ => {
             let number = rng.between(1, MOST_RECORDS - 1);
-            let mut table = records(rng, number);
+            let mut table = records(rng, &[], number);
             let mut again = table[rng.below(number)].clone();
             if own_of(&table, &again.mixed) == MOST_OWN || rng.one_in(2) {
                 again.mixed = rng.array();
@@ -309,7 +316,7 @@ pub fn spoiled(rng: &mut Rng, records: &[Record]) -> (Vec<u8>, &'static str) {
     let some;
     let records = if records.is_empty() {
         let number = rng.between(1, 4);
-        some = self::records(rng, number);
+        some = self::records(rng, &[], number);
         &some
     } else {
         records

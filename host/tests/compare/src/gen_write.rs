@@ -1,10 +1,11 @@
 //! Calls of the writers: fields that obey the rules, and some that are certain to break one.
 
 use crate::calls::{Marked, WriteCall, GIVEN, NOT_GIVEN};
-use crate::gen_command::{self, Scene, MOST_COMMAND, MOST_HANDLES};
+use crate::gen_command::{self, MOST_COMMAND, MOST_HANDLES};
 use crate::gen_lent::{spoil_number, WrongNames};
 use crate::gen_name::{self, MOST_NAME};
 use crate::rng::Rng;
+use crate::scene::Scene;
 use crate::tlv::{self, Child, Kind};
 
 const HANDLE: usize = 32;
@@ -53,8 +54,14 @@ fn some_bytes(rng: &mut Rng, least: usize, greatest: usize) -> Vec<u8> {
 fn right_fields(rng: &mut Rng, kind: Kind, scene: &Scene) -> WriteCall {
     let mut call = WriteCall::new(kind);
     if matches!(kind, Kind::Register | Kind::Sign | Kind::Deregister) {
-        call.app_id = marked(rng, 1, 512);
-        call.access_token = some_bytes(rng, 1, 32);
+        call.app_id = match &scene.holder.app_id {
+            Some(bytes) => Marked {
+                mark: GIVEN,
+                bytes: bytes.clone(),
+            },
+            None => not_given(rng),
+        };
+        call.access_token = scene.holder.token.to_vec();
     }
     if matches!(kind, Kind::Register | Kind::Sign) {
         call.challenge = some_bytes(rng, 1, 32);
@@ -220,20 +227,13 @@ const USERNAME: Stretch = Stretch {
     empty: "writer: name of 0",
     over: "writer: name over 128",
 };
-const ACCESS_TOKEN: Stretch = Stretch {
-    of: |call| &mut call.access_token,
-    least: 1,
-    greatest: 32,
-    empty: "writer: access token of 0",
-    over: "writer: access token over 32",
-};
 
 /// The fields with such a length that the command lists.
 fn stretches(kind: Kind) -> &'static [Stretch] {
     match kind {
-        Kind::Register => &[APP_ID, CHALLENGE, USERNAME, ACCESS_TOKEN],
-        Kind::Sign => &[APP_ID, CHALLENGE, ACCESS_TOKEN],
-        Kind::Deregister => &[APP_ID, ACCESS_TOKEN],
+        Kind::Register => &[APP_ID, CHALLENGE, USERNAME],
+        Kind::Sign => &[APP_ID, CHALLENGE],
+        Kind::Deregister => &[APP_ID],
         Kind::GetInfo | Kind::OpenSettings => &[],
     }
 }
@@ -257,6 +257,21 @@ fn resize(rng: &mut Rng, call: &mut WriteCall) -> Option<&'static str> {
     } else {
         stretch.over
     })
+}
+
+const TOKENS: [(usize, &str); 6] = [
+    (0, "writer: access token of 0"),
+    (1, "writer: access token of 1"),
+    (31, "writer: access token of 31"),
+    (33, "writer: access token of 33"),
+    (64, "writer: access token of another length"),
+    (WRAPS + 32, "writer: access token of another length"),
+];
+
+fn resize_token(rng: &mut Rng, call: &mut WriteCall) -> Option<&'static str> {
+    let (length, what) = rng.pick(&TOKENS);
+    call.access_token.resize(length, b'w');
+    Some(what)
 }
 
 /// A length of more than 16 bits, often good in the low 16.
@@ -448,9 +463,10 @@ fn lengthen(rng: &mut Rng, call: &mut WriteCall) -> Option<&'static str> {
 /// field.
 type Fault = fn(&mut Rng, &mut WriteCall) -> Option<&'static str>;
 
-const FAULTS: [Fault; 10] = [
+const FAULTS: [Fault; 11] = [
     resize,
     resize,
+    resize_token,
     wrap,
     rename,
     retype,

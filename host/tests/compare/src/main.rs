@@ -7,19 +7,23 @@
 //! It ends with 1 at the first mismatch, which it prints, or if some class of calls that must occur
 //! did not.
 
+mod answered;
 mod apart;
 mod calls;
 mod check;
 mod corpus;
 mod damage;
 mod follow;
+mod form;
 mod gen_command;
 mod gen_draft;
+mod gen_holder;
 mod gen_lent;
 mod gen_name;
 mod gen_response;
 mod gen_table;
 mod gen_write;
+mod hashes;
 mod must;
 mod names;
 mod nests;
@@ -28,6 +32,7 @@ mod output;
 mod properties;
 mod report;
 mod rng;
+mod scene;
 mod singles;
 mod sweeps;
 mod tlv;
@@ -88,7 +93,7 @@ fn options() -> Options {
 fn case(checker: &mut Checker, seed: u64, case: u64) -> Checked<()> {
     let rng = &mut Rng::new(seed, case);
     checker.start(seed, case);
-    match rng.weighed(&[840, 400, 20, 240, 100, 400, 10, 1, 1, 1, 1, 300, 60]) {
+    match rng.weighed(&[840, 400, 20, 240, 100, 400, 10, 1, 1, 1, 1, 300, 60, 40]) {
         0 => singles::command(rng, checker),
         1 => singles::damaged_command(rng, checker),
         2 => traces::afternoon(rng, checker),
@@ -101,7 +106,8 @@ fn case(checker: &mut Checker, seed: u64, case: u64) -> Checked<()> {
         9 => sweeps::draft(rng, checker),
         10 => sweeps::response(rng, checker),
         11 => writes::writing(rng, checker),
-        _ => writes::forms(rng, checker),
+        12 => writes::forms(rng, checker),
+        _ => hashes::parted(rng, checker),
     }
 }
 

@@ -1,7 +1,7 @@
 //! What must occur, so that no class of calls goes untried.
 
 use crate::gen_response;
-use crate::report::{completion_name, name_of, Class, Entry, Outcome, OTHER};
+use crate::report::{completion_name, name_of, Class, Entry, Outcome, OTHER, STRETCHES};
 use crate::tlv::Kind;
 
 /// What a command can answer besides a status alone, as a command and when it is read.
@@ -20,7 +20,7 @@ fn answers(kind: Kind, read: bool) -> Vec<Outcome> {
 }
 
 /// The faults of which each must have been the only one of some call.
-pub const FAULTS: [&str; 120] = [
+pub const FAULTS: [&str; 128] = [
     "output: response too short",
     "output: table too short",
     "table: over 32 records",
@@ -51,13 +51,18 @@ pub const FAULTS: [&str; 120] = [
     "lent: display result over 3",
     "lent: display result over 3, its low 8 bits good",
     "lent: display result over 3, its low 16 bits good",
-    "lent: mixed token's length",
     "lent: KeyID's length",
     "lent: public key's length",
     "lent: nonce's length",
-    "lent: hash's length",
     "body: mandatory child missing",
     "body: child's length",
+    "body: access token of 0",
+    "body: access token of 1",
+    "body: access token of 31",
+    "body: access token of 33",
+    "body: access token of another length",
+    "body: access token of 31, its last byte in the AppID",
+    "body: access token of 33, the AppID's first byte in it",
     "body: index not 0",
     "body: listed child twice",
     "body: critical child",
@@ -125,7 +130,10 @@ pub const FAULTS: [&str; 120] = [
     "writer: content's mark over 1, its low 8 bits good",
     "writer: content's mark over 1, its low 16 bits good",
     "writer: access token of 0",
-    "writer: access token over 32",
+    "writer: access token of 1",
+    "writer: access token of 31",
+    "writer: access token of 33",
+    "writer: access token of another length",
     "writer: token's mark over 1",
     "writer: token's mark over 1, its low 8 bits good",
     "writer: token's mark over 1, its low 16 bits good",
@@ -165,9 +173,9 @@ pub fn classes() -> Vec<Class> {
             .copied()
             .map(Outcome::Status)
             .collect();
-        // Open settings uses nothing that is lent.
+        // These two use nothing that is lent.
         let numbers: &[u32] = match kind {
-            Kind::OpenSettings => &[1, 2],
+            Kind::Deregister | Kind::OpenSettings => &[1, 2],
             _ => &[1, 2, 4],
         };
         add(Entry::Command, name, &refusals(numbers));
@@ -190,6 +198,9 @@ pub fn classes() -> Vec<Class> {
         add(Entry::SignedPart, name_of(kind), &[Outcome::Part]);
     }
     add(Entry::Command, OTHER, &refusals(&[1, 2, 3]));
+    for stretches in STRETCHES {
+        add(Entry::Hash, stretches, &[Outcome::Hash]);
+    }
     add(Entry::SignedPart, OTHER, &refusals(&[5]));
     add(Entry::ReadFields, OTHER, &refusals(&[5]));
     for kind in [0, 1] {

@@ -10,11 +10,13 @@ use crate::gen_table::{encode, Record};
 use crate::properties;
 use crate::rng::Rng;
 use crate::tlv::{self, Child, Kind};
+use uaf_peer::hash;
 
 const VERIFIED: u32 = 0;
 const DENIED: u32 = 1;
 /// For a Register of the longest name and the shortest other fields.
-const LONG_ENOUGH: usize = 29 + MOST_NAME;
+const LONG_ENOUGH: usize = 60 + MOST_NAME;
+const TOKEN: [u8; 32] = [0xAA; 32];
 
 /// A holder whose calls and records differ in their names alone.
 struct Holder {
@@ -32,7 +34,7 @@ fn children(kind: Kind) -> Vec<Child> {
     let mut children = vec![
         Child::new(tlv::INDEX, [0]),
         Child::new(tlv::CHALLENGE_HASH, [0xAA]),
-        Child::new(tlv::ACCESS_TOKEN, [0xAA]),
+        Child::new(tlv::ACCESS_TOKEN, TOKEN),
     ];
     if kind == Kind::Register {
         let full = tlv::BASIC_FULL.to_le_bytes();
@@ -43,8 +45,8 @@ fn children(kind: Kind) -> Vec<Child> {
 
 impl Holder {
     fn new(rng: &mut Rng) -> Holder {
-        let (mixed, key_id) = (rng.array(), rng.array());
-        let mut lent = gen_lent::right(rng, &mixed, &key_id);
+        let (mixed, key_id) = (hash(&TOKEN, &[]), rng.array());
+        let mut lent = gen_lent::right(rng, &key_id);
         lent.verdict = VERIFIED;
         let call = |kind: Kind| CommandCall {
             command: tlv::holding(kind.tag(), &children(kind)),
@@ -61,7 +63,7 @@ impl Holder {
         };
         let write = WriteCall {
             challenge: vec![0xAA],
-            access_token: vec![0xAA],
+            access_token: TOKEN.to_vec(),
             command_size: LONG_ENOUGH,
             ..WriteCall::new(Kind::Register)
         };

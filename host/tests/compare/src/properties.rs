@@ -1,11 +1,10 @@
-//! What document 01 says of every call and needs no second implementation.
+//! What document 01 says of every call and needs no second implementation. What it says of commands is
+//! in `answered`.
 
-use crate::calls::{CommandCall, Expect};
-use crate::check::{Read, Wrote};
-use crate::gen_table::{decode, Record};
+use crate::check::Read;
 use crate::outcome::{number_at, status_of};
 use crate::report::Counts;
-use crate::tlv::{self, Kind};
+use crate::tlv;
 use std::ops::Range;
 use uaf_token::raw::FieldNumbers;
 
@@ -19,6 +18,14 @@ pub const READ_BACK: &str = "the signed stretch of a completed response is the d
 pub const DRAFT_ALONE: &str = "a draft alone is no response";
 pub const FIELDS: &str = "fields lie one after another inside the response";
 pub const APART: &str = "other holders' calls change nothing for a holder";
+pub const BY_TOKEN: &str = "a holder without an AppID meets its record";
+pub const BY_BOTH: &str = "a holder with an AppID meets its record";
+pub const OWN_ALONE: &str = "without handles a Sign goes by the holder's records alone";
+pub const NEARLY: &str = "a record of nearly the holder's hash is not met";
+pub const HASHED: &str = "a draft has the hash of the content";
+pub const NOT_HASHED: &str = "content that is empty or missing is not hashed";
+pub const NOTHING_LENT: &str = "a Deregister that is lent nothing right is answered";
+pub const PARTED: &str = "a hash is the same wherever its bytes are parted";
 pub const CUT: &str = "a name cut inside a letter is taken nowhere";
 pub const JOINED: &str = "two names are taken as one";
 pub const FIELDS_GIVEN: &str = "reading what is written gives the fields given";
@@ -34,7 +41,7 @@ pub const LEAST_FORM: &str = "a form is its own form, and no command of it is sh
 pub const SAME_EFFECT: &str = "a command and its form have the same effect";
 pub const WRITTEN_FORM: &str = "a form is what is written of its fields";
 
-pub const ALL: [&str; 24] = [
+pub const ALL: [&str; 32] = [
     REFUSAL,
     KEPT,
     APPENDED,
@@ -45,6 +52,14 @@ pub const ALL: [&str; 24] = [
     DRAFT_ALONE,
     FIELDS,
     APART,
+    BY_TOKEN,
+    BY_BOTH,
+    OWN_ALONE,
+    NEARLY,
+    HASHED,
+    NOT_HASHED,
+    NOTHING_LENT,
+    PARTED,
     CUT,
     JOINED,
     FIELDS_GIVEN,
@@ -61,99 +76,14 @@ pub const ALL: [&str; 24] = [
     WRITTEN_FORM,
 ];
 
-type Held = Result<(), String>;
+pub type Held = Result<(), String>;
 
-fn held(counts: &mut Counts, property: &'static str, holds: bool) -> Held {
+pub fn held(counts: &mut Counts, property: &'static str, holds: bool) -> Held {
     counts.add_property(property);
     if holds {
         Ok(())
     } else {
         Err(format!("does not hold: {}", property))
-    }
-}
-
-/// The table with one record of the caller's, lent KeyID and count 0 more.
-fn appended(call: &CommandCall, before: &[Record], after: &[Record]) -> bool {
-    match after.split_last() {
-        Some((last, others)) => {
-            others == before
-                && last.key_id[..] == call.lent.key_id[..]
-                && last.mixed[..] == call.lent.mixed[..]
-                && last.counter == 0
-        }
-        None => false,
-    }
-}
-
-/// The table with the counter of one record of the caller's raised by 1.
-fn raised(call: &CommandCall, before: &[Record], after: &[Record]) -> bool {
-    if before.len() != after.len() {
-        return false;
-    }
-    let mut changed = before.iter().zip(after).filter(|(old, new)| old != new);
-    let one = changed.next().map_or(false, |(old, new)| {
-        let risen = Record {
-            counter: old.counter.wrapping_add(1),
-            ..old.clone()
-        };
-        *new == risen && new.counter != 0 && old.mixed[..] == call.lent.mixed[..]
-    });
-    one && changed.next().is_none()
-}
-
-/// The table without all records of the caller's, or without one of them.
-fn removed(call: &CommandCall, before: &[Record], after: &[Record]) -> bool {
-    let own = |record: &Record| record.mixed[..] == call.lent.mixed[..];
-    let others = |records: &[Record]| -> Vec<Record> {
-        records.iter().filter(|r| !own(r)).cloned().collect()
-    };
-    let kept = after.iter().filter(|r| own(r)).count();
-    let mut rest = before.iter();
-    let in_order = after.iter().all(|record| rest.any(|old| old == record));
-    in_order && others(before) == others(after) && (kept == 0 || before.len() == after.len() + 1)
-}
-
-fn of_draft(counts: &mut Counts, call: &CommandCall, wrote: &Wrote) -> Held {
-    let (before, after) = (decode(&call.table), decode(&wrote.table));
-    match Kind::of(&call.command) {
-        Some(Kind::Register) => held(counts, APPENDED, appended(call, &before, &after)),
-        Some(Kind::Sign) => held(counts, RAISED, raised(call, &before, &after)),
-        _ => Err("a draft of neither Register nor Sign".into()),
-    }
-}
-
-fn of_response(counts: &mut Counts, call: &CommandCall, wrote: &Wrote, expect: Expect) -> Held {
-    let status = status_of(&wrote.response);
-    let invalid = status == 0x08;
-    if (expect == Expect::Invalid && !invalid) || (expect == Expect::Served && invalid) {
-        return Err(format!(
-            "status {:#04X}, the generator made {:?}",
-            status, expect
-        ));
-    }
-    if status == 0 && Kind::of(&call.command) == Some(Kind::Deregister) {
-        let (before, after) = (decode(&call.table), decode(&wrote.table));
-        return held(counts, REMOVED, removed(call, &before, &after));
-    }
-    held(counts, KEPT, wrote.table == call.table)
-}
-
-/// A command's answer, of which both implementations agree.
-pub fn of_command(
-    counts: &mut Counts,
-    call: &CommandCall,
-    answer: &Result<Wrote, u32>,
-    expect: Expect,
-) -> Held {
-    match answer {
-        Err(_) => held(counts, REFUSAL, true),
-        Ok(wrote) if wrote.draft => {
-            if expect == Expect::Invalid {
-                return Err("a draft, the generator made it invalid".into());
-            }
-            of_draft(counts, call, wrote)
-        }
-        Ok(wrote) => of_response(counts, call, wrote, expect),
     }
 }
 

@@ -13,6 +13,7 @@ pub enum Entry {
     SignedPart,
     ReadFields,
     Write,
+    Hash,
 }
 
 /// What a call answered.
@@ -35,6 +36,7 @@ pub enum Outcome {
     NoPart,
     /// A command.
     Written,
+    Hash,
 }
 
 /// The entry, what it was given and what it answered.
@@ -53,6 +55,7 @@ impl Display for Entry {
             Entry::SignedPart => "uaf_signed_part",
             Entry::ReadFields => "uaf_read_fields",
             Entry::Write => "uaf_write_*",
+            Entry::Hash => "uaf_hash",
         })
     }
 }
@@ -72,6 +75,7 @@ impl Display for Outcome {
             Outcome::Part => "signed structure".into(),
             Outcome::NoPart => "no signed structure".into(),
             Outcome::Written => "command".into(),
+            Outcome::Hash => "hash".into(),
         };
         f.pad(&text)
     }
@@ -97,6 +101,9 @@ pub fn completion_name(kind: u32) -> &'static str {
         _ => "other kind",
     }
 }
+
+/// Which of the two stretches of a hash have any bytes.
+pub const STRETCHES: [&str; 4] = ["nothing", "first alone", "second alone", "two stretches"];
 
 #[derive(Default)]
 pub struct Counts {

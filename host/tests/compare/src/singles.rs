@@ -4,12 +4,14 @@ use crate::calls::{CommandCall, CompleteCall, Expect, LEAST_RESPONSE, LEAST_TABL
 use crate::check::{Checked, Checker};
 use crate::damage;
 use crate::follow;
-use crate::gen_command::{self, Scene};
+use crate::gen_command;
 use crate::gen_draft::{self, REGISTRATION, SIGN};
+use crate::gen_holder;
 use crate::gen_lent;
 use crate::gen_response;
 use crate::gen_table;
 use crate::rng::Rng;
+use crate::scene::Scene;
 use crate::tlv::{self, Kind};
 
 /// The names of the faults in a call.
@@ -44,7 +46,7 @@ pub fn right_command(rng: &mut Rng, kind: Kind, scene: &Scene) -> CommandCall {
 /// A right call of these bytes.
 pub fn right_call(rng: &mut Rng, kind: Kind, scene: &Scene, command: Vec<u8>) -> CommandCall {
     let key_id = scene.new_key_id(rng);
-    let mut lent = gen_lent::right(rng, &scene.mixed, &key_id);
+    let mut lent = gen_lent::right(rng, &key_id);
     if rng.percent(30) {
         gen_lent::spoil_unused(rng, &mut lent, kind);
     }
@@ -58,8 +60,10 @@ pub fn right_call(rng: &mut Rng, kind: Kind, scene: &Scene, command: Vec<u8>) ->
 }
 
 pub fn some_scene(rng: &mut Rng) -> Scene {
-    let records = gen_table::right(rng);
-    Scene::new(rng, records)
+    let number = rng.between(1, 4);
+    let holders = gen_holder::holders(rng, number);
+    let records = gen_table::right(rng, &holders);
+    Scene::among(rng, &holders, records)
 }
 
 pub fn shorten(rng: &mut Rng, call: &mut CommandCall) -> &'static str {

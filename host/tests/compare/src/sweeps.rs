@@ -3,12 +3,13 @@
 use crate::calls::{CommandCall, Expect};
 use crate::check::{Checked, Checker};
 use crate::follow;
-use crate::gen_command::Scene;
 use crate::gen_draft::{self, REGISTRATION, SIGN};
+use crate::gen_holder::{self, Holder};
 use crate::gen_name;
 use crate::gen_response;
 use crate::gen_table::{self, Record};
 use crate::rng::Rng;
+use crate::scene::Scene;
 use crate::singles;
 
 /// Longer ones would take the time of too many other calls.
@@ -46,16 +47,27 @@ fn both(rng: &mut Rng, bytes: &[u8]) -> Vec<Vec<u8>> {
     all
 }
 
-/// A call on a table of one or two records with short names.
+/// A holder whose AppID is short.
+fn short_holder(rng: &mut Rng) -> Holder {
+    loop {
+        let holder = gen_holder::new(rng);
+        if holder.app_id.as_ref().map_or(0, Vec::len) <= 40 {
+            return holder;
+        }
+    }
+}
+
+/// A call on a table of one or two records with short names, of which the caller has the first.
 fn small_call(rng: &mut Rng) -> CommandCall {
     let number = rng.between(1, 2);
-    let mut records: Vec<Record> = gen_table::records(rng, number);
+    let holder = short_holder(rng);
+    let mut records: Vec<Record> = gen_table::records(rng, std::slice::from_ref(&holder), number);
     for record in &mut records {
         let length = rng.between(1, 4);
         record.name = gen_name::of_length(rng, length);
     }
-    let mixed = records[0].mixed;
-    let scene = Scene { records, mixed };
+    records[0].mixed = holder.mixed();
+    let scene = Scene::new(records, holder);
     let kind = singles::some_kind(rng);
     loop {
         let mut call = singles::right_command(rng, kind, &scene);

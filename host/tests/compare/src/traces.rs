@@ -5,21 +5,24 @@ use crate::calls::{CommandCall, Expect, LEAST_RESPONSE, LEAST_TABLE};
 use crate::check::{Checked, Checker, Read, Wrote};
 use crate::damage;
 use crate::follow;
-use crate::gen_command::{self, Scene};
+use crate::form;
+use crate::gen_command;
+use crate::gen_holder::{self, Holder};
 use crate::gen_lent;
 use crate::gen_table::{self, decode};
 use crate::rng::Rng;
+use crate::scene::Scene;
 use crate::singles;
 use crate::tlv::{self, Child, Kind};
 
 /// A name that a holder may pick from the list it got.
 struct Choice {
-    mixed: [u8; 32],
+    holder: Holder,
     key_id: [u8; 32],
 }
 
 struct Afternoon {
-    holders: Vec<[u8; 32]>,
+    holders: Vec<Holder>,
     /// Every Register is lent a new KeyID.
     fresh: bool,
     table: Vec<u8>,
@@ -30,13 +33,12 @@ struct Afternoon {
 impl Afternoon {
     fn new(rng: &mut Rng) -> Afternoon {
         let number = rng.between(1, 6);
+        let holders = gen_holder::holders(rng, number);
         let table = if rng.percent(85) {
             Vec::new()
         } else {
-            gen_table::encode(&gen_table::right(rng))
+            gen_table::encode(&gen_table::right(rng, &holders))
         };
-        let mut holders = gen_table::holders(rng, number);
-        holders.extend(decode(&table).iter().map(|record| record.mixed).take(2));
         Afternoon {
             holders,
             fresh: rng.percent(60),
@@ -47,16 +49,14 @@ impl Afternoon {
     }
 
     fn scene(&self, rng: &mut Rng) -> Scene {
-        Scene {
-            records: decode(&self.table),
-            mixed: rng.pick(&self.holders),
-        }
+        let holder = self.holders[rng.below(self.holders.len())].clone();
+        Scene::new(decode(&self.table), holder)
     }
 }
 
 /// A Sign with the key handle picked from the list.
-fn chosen_sign(rng: &mut Rng, choice: &Choice, scene: &mut Scene) -> CommandCall {
-    scene.mixed = choice.mixed;
+fn chosen_sign(rng: &mut Rng, choice: Choice, scene: Scene) -> CommandCall {
+    let scene = &Scene::new(scene.records, choice.holder);
     let mut call = singles::right_command(rng, Kind::Sign, scene);
     let mut children = gen_command::listed(rng, Kind::Sign, scene);
     children.retain(|child| child.tag != tlv::KEYHANDLE);
@@ -92,10 +92,10 @@ fn spoil(rng: &mut Rng, call: &mut CommandCall) {
 
 /// The next call. Mostly the fingerprint is verified, so that the table comes to life.
 fn next_call(rng: &mut Rng, afternoon: &mut Afternoon) -> CommandCall {
-    let mut scene = afternoon.scene(rng);
+    let scene = afternoon.scene(rng);
     let choice = afternoon.choice.take();
     let mut call = match choice {
-        Some(choice) if rng.percent(60) => chosen_sign(rng, &choice, &mut scene),
+        Some(choice) if rng.percent(60) => chosen_sign(rng, choice, scene),
         _ => match rng.weighed(&[45, 20, 15, 10, 4, 3, 3]) {
             0 => singles::right_command(rng, Kind::Register, &scene),
             1 => open_sign(rng, &scene),
@@ -134,9 +134,8 @@ fn choice_of(rng: &mut Rng, call: &CommandCall, wrote: &Wrote, read: &Read) -> O
     let place = fields.places[rng.pick(&handles)];
     let mut key_id = [0; 32];
     key_id.copy_from_slice(&wrote.response[place..place + 32]);
-    let mut mixed = [0; 32];
-    mixed.copy_from_slice(&call.lent.mixed);
-    Some(Choice { mixed, key_id })
+    let holder = form::holder_of(&form::fields(&call.command)?)?;
+    Some(Choice { holder, key_id })
 }
 
 /// An afternoon of 5 to 200 calls. Drafts are completed and responses read. At the end one holder's
@@ -158,11 +157,11 @@ pub fn afternoon(rng: &mut Rng, checker: &mut Checker) -> Checked<()> {
             }
             afternoon.table = wrote.table.clone();
         }
-        afternoon.steps.push(Step { call, answer });
+        afternoon.steps.push(Step::new(call, answer));
     }
     if from_empty {
-        let holder = rng.pick(&afternoon.holders);
-        apart::check(rng, checker, &holder, &afternoon.steps)?;
+        let holder = &afternoon.holders[rng.below(afternoon.holders.len())];
+        apart::check(rng, checker, &holder.mixed(), &afternoon.steps)?;
     }
     Ok(())
 }

@@ -3,57 +3,16 @@
 
 use crate::calls::{CommandCall, Expect, Marked, WriteCall, GIVEN};
 use crate::check::{fail, Checked, Checker, Wrote};
-use crate::gen_command::{self, Scene, MOST_COMMAND};
+use crate::form::{children_of, fields_of, form};
+use crate::gen_command::{self, MOST_COMMAND};
 use crate::gen_lent;
 use crate::gen_table;
 use crate::gen_write;
-use crate::outcome::number_at;
 use crate::properties;
 use crate::rng::Rng;
+use crate::scene::Scene;
 use crate::singles;
 use crate::tlv::{self, Child, Kind};
-use uaf_peer::form_of;
-
-/// The children of a command whose lengths are right.
-fn children_of(command: &[u8]) -> Vec<Child> {
-    let (mut children, mut place) = (Vec::new(), 4);
-    while place < command.len() {
-        let (value, length) = (place + 4, usize::from(number_at(command, place + 2)));
-        let tag = number_at(command, place);
-        children.push(Child::new(tag, &command[value..value + length]));
-        place = value + length;
-    }
-    children
-}
-
-/// What a writer would be lent to write a command of these children, in whatever order they are.
-/// Nothing, if one is no field of a writer.
-fn fields_of(kind: Kind, children: &[Child]) -> Option<WriteCall> {
-    let mut fields = WriteCall::new(kind);
-    let given = |value: &[u8]| Marked {
-        mark: GIVEN,
-        bytes: value.to_vec(),
-    };
-    for Child { tag, value } in children {
-        match *tag {
-            tlv::INDEX if *value == [0] => {}
-            tlv::APPID => fields.app_id = given(value),
-            tlv::CHALLENGE_HASH => fields.challenge = value.clone(),
-            tlv::USERNAME => fields.username = value.clone(),
-            tlv::ATTESTATION_TYPE => fields.attestation = number_at(value, 0).into(),
-            tlv::TRANSACTION_CONTENT => fields.content = given(value),
-            tlv::ACCESS_TOKEN => fields.access_token = value.clone(),
-            tlv::USERVERIFY_TOKEN => fields.verify_token = given(value),
-            tlv::KEYID => fields.key_id = value.clone(),
-            tlv::KEYHANDLE => {
-                fields.handle_sizes.push(value.len());
-                fields.handles.extend(value);
-            }
-            _ => return None,
-        }
-    }
-    Some(fields)
-}
 
 /// The call without what it need not look at.
 fn looked_at(call: &WriteCall) -> WriteCall {
@@ -84,11 +43,6 @@ fn holds(
     } else {
         fail(format!("does not hold: {}", property), call.to_string())
     }
-}
-
-fn form(command: &[u8]) -> Option<Vec<u8>> {
-    let mut form = Vec::new();
-    form_of(command, &mut form).then_some(form)
 }
 
 /// What the call shows by itself, as it was not refused.

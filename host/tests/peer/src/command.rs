@@ -7,6 +7,7 @@ use crate::numbers::{
     MOST_OWN, MOST_RECORDS, SCHEME,
 };
 use crate::params::Params;
+use crate::sha256::hash;
 use crate::table::{Record, Table};
 use crate::tlv::Writer;
 use crate::{Answer, Lent, Refusal, Served};
@@ -76,9 +77,18 @@ fn serve(call: &Call, command: &[u8], table: &Table, out: &mut Outputs) -> Resul
         Call::GetInfo(profile) => Ok(get_info(profile, table, out)),
         Call::Register(lent) => register(lent, &params, table, out),
         Call::Sign(lent) => sign(lent, &params, table, out),
-        Call::Deregister(mixed) => deregister(mixed, &params, table, out),
+        Call::Deregister => deregister(&params, table, out),
         Call::OpenSettings => Err(Status::CmdNotSupported),
     }
+}
+
+/// The mixed token of a command: the hash of "access token followed by AppID". "A missing AppID adds
+/// no bytes."
+///
+/// It is worked out where records are looked at for it, so not for a status that is decided before.
+fn mixed_token(params: &Params) -> Bytes32 {
+    let token = params.value(tag::KEYHANDLE_ACCESS_TOKEN);
+    hash(token, params.value(tag::APPID))
 }
 
 /// A response: its status, then what `body` writes.
@@ -129,14 +139,18 @@ fn register(
     if table.has_key_id(lent.key_id) {
         return Err(Status::ErrUnknown);
     }
-    // "at 8 own records or 32 in all"
-    if table.count_own(lent.mixed) >= MOST_OWN || table.count() >= MOST_RECORDS {
+    // "at 8 own records or 32 in all"; for the latter it doesn't matter whose they are.
+    if table.count() >= MOST_RECORDS {
+        return Err(Status::InsufficientResources);
+    }
+    let mixed = mixed_token(params);
+    if table.count_own(&mixed) >= MOST_OWN {
         return Err(Status::InsufficientResources);
     }
     let challenge = params.value(tag::FINAL_CHALLENGE_HASH);
     let username = params.value(tag::USERNAME);
     write_krd(lent, challenge, &mut out.answer);
-    table.write_with(lent.key_id, lent.mixed, username, &mut out.table);
+    table.write_with(lent.key_id, &mixed, username, &mut out.table);
     Ok(Written::Draft)
 }
 
@@ -147,10 +161,11 @@ fn sign(
     out: &mut Outputs,
 ) -> Result<Written, Status> {
     lent.verdict?;
-    // "records with the lent mixed token and, if key handles are given, a KeyID among them"
+    // "records with the [...] mixed token and, if key handles are given, a KeyID among them"
+    let mixed = mixed_token(params);
     let handles = params.handles();
     let chosen = table
-        .own(lent.mixed)
+        .own(&mixed)
         .filter(|record| handles.count() == 0 || handles.contains(record.key_id));
     let mut first = chosen.clone();
     match (first.next(), first.next()) {
@@ -187,8 +202,8 @@ fn sign_with(
     table: &Table,
     out: &mut Outputs,
 ) -> Result<Written, Status> {
-    let with_content = !params.value(tag::TRANSACTION_CONTENT).is_empty();
-    if with_content {
+    let content = params.value(tag::TRANSACTION_CONTENT);
+    if !content.is_empty() {
         lent.display?;
     }
     let counter = record.counter().checked_add(1).ok_or(Status::ErrUnknown)?;
@@ -196,7 +211,7 @@ fn sign_with(
     write_signed_data(
         lent,
         challenge,
-        with_content,
+        content,
         record.key_id,
         counter,
         &mut out.answer,
@@ -206,16 +221,12 @@ fn sign_with(
 }
 
 /// A stranger's KeyID and an unknown one are answered alike.
-fn deregister(
-    mixed: &Bytes32,
-    params: &Params,
-    table: &Table,
-    out: &mut Outputs,
-) -> Result<Written, Status> {
+fn deregister(params: &Params, table: &Table, out: &mut Outputs) -> Result<Written, Status> {
+    let mixed = mixed_token(params);
     // Empty for all of them, else of 32 bytes.
     let key_id: Option<&Bytes32> = params.value(tag::KEYID).try_into().ok();
     let gone = |record: &Record| {
-        record.mixed == mixed && key_id.map_or(true, |key_id| record.key_id == key_id)
+        *record.mixed == mixed && key_id.map_or(true, |key_id| record.key_id == key_id)
     };
     if key_id.is_some() && !table.records().any(|record| gone(&record)) {
         return Err(Status::AccessDenied);

@@ -3,6 +3,7 @@
 
 use crate::lent::{Registering, Signing};
 use crate::numbers::{limit, tag, Bytes32, CONFIRMED, VERIFIED};
+use crate::sha256::hash;
 use crate::tlv::{Limit, Row, Run, Sink, Writer};
 
 const KRD: [Row; 6] = [
@@ -43,19 +44,22 @@ pub(crate) fn write_krd(lent: &Registering, challenge: &[u8], out: &mut Writer) 
     });
 }
 
-/// "Mode is 0x02 with content, else 0x01 and a hash of length 0."
+/// "Mode is 0x02 with content, else 0x01 and a hash of length 0." The transaction hash is "that of
+/// the content"; content that is empty is none and isn't hashed.
 pub(crate) fn write_signed_data(
     lent: &Signing,
     challenge: &[u8],
-    with_content: bool,
+    content: &[u8],
     key_id: &Bytes32,
     counter: u32,
     out: &mut Writer,
 ) {
-    let (mode, hash) = if with_content {
-        (CONFIRMED, lent.hash.as_slice())
-    } else {
+    let of_content;
+    let (mode, transaction_hash) = if content.is_empty() {
         (VERIFIED, [].as_slice())
+    } else {
+        of_content = hash(content, &[]);
+        (CONFIRMED, of_content.as_slice())
     };
     out.wrap(tag::SIGNED_DATA, |out| {
         out.tlv(tag::AAID, lent.profile.aaid);
@@ -66,7 +70,7 @@ pub(crate) fn write_signed_data(
         });
         out.tlv(tag::NONCE, lent.nonce);
         out.tlv(tag::FINAL_CHALLENGE_HASH, challenge);
-        out.tlv(tag::TRANSACTION_CONTENT_HASH, hash);
+        out.tlv(tag::TRANSACTION_CONTENT_HASH, transaction_hash);
         out.tlv(tag::KEYID, key_id);
         out.tlv(tag::COUNTERS, &counter.to_le_bytes());
     });
@@ -83,6 +87,7 @@ pub(crate) fn is_krd(run: Run, sink: &mut impl Sink) -> bool {
 }
 
 /// Whether a Sign can write a SIGNED_DATA that holds this run. The count has risen, so it isn't 0.
+/// "Nobody can look back through a hash, so [...] any 32 bytes count as a transaction hash".
 pub(crate) fn is_signed_data(run: Run, sink: &mut impl Sink) -> bool {
     match run.leaves(&SIGNED_DATA, sink) {
         Some([_, info, _, _, hash, _, counter]) => {

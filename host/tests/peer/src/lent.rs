@@ -1,5 +1,6 @@
 //! The lent results that each command uses, and refusal 4: "a lent result that this command uses
-//! has a wrong length or number". What a command doesn't use is never looked at.
+//! has a wrong length or number". What a command doesn't use is never looked at. "The token works
+//! out the mixed token and the transaction hash", so they are not among these.
 
 use crate::numbers::{limit, Bytes32, Kind, Status, AAID, METADATA};
 use crate::{Lent, Profile};
@@ -22,27 +23,24 @@ pub(crate) enum Call<'a> {
     GetInfo(RightProfile<'a>),
     Register(Registering<'a>),
     Sign(Signing<'a>),
-    Deregister(&'a Bytes32),
+    Deregister,
     OpenSettings,
 }
 
-/// "Register profile, verdict, mixed token, KeyID, public key".
+/// "Register profile, verdict, [...] KeyID, public key".
 pub(crate) struct Registering<'a> {
     pub profile: RightProfile<'a>,
     pub verdict: Said,
-    pub mixed: &'a Bytes32,
     pub key_id: &'a Bytes32,
     pub public_key: &'a [u8],
 }
 
-/// "Sign profile, verdict, display result, mixed token, nonce, transaction hash".
+/// "Sign profile, verdict, display result, [...] nonce".
 pub(crate) struct Signing<'a> {
     pub profile: RightProfile<'a>,
     pub verdict: Said,
     pub display: Said,
-    pub mixed: &'a Bytes32,
     pub nonce: &'a [u8],
-    pub hash: &'a Bytes32,
 }
 
 impl<'a> Call<'a> {
@@ -53,7 +51,6 @@ impl<'a> Call<'a> {
             Kind::Register => Call::Register(Registering {
                 profile: profile(lent)?,
                 verdict: verdict(lent.verdict)?,
-                mixed: lent.mixed.try_into().ok()?,
                 key_id: lent.key_id.try_into().ok()?,
                 public_key: Some(lent.public_key).filter(|key| limit::PUBLIC_KEY.allows(key))?,
             }),
@@ -61,11 +58,9 @@ impl<'a> Call<'a> {
                 profile: profile(lent)?,
                 verdict: verdict(lent.verdict)?,
                 display: display(lent.display)?,
-                mixed: lent.mixed.try_into().ok()?,
                 nonce: Some(lent.nonce).filter(|nonce| limit::NONCE.allows(nonce))?,
-                hash: lent.hash.try_into().ok()?,
             }),
-            Kind::Deregister => Call::Deregister(lent.mixed.try_into().ok()?),
+            Kind::Deregister => Call::Deregister,
             Kind::OpenSettings => Call::OpenSettings,
         })
     }
@@ -75,7 +70,7 @@ impl<'a> Call<'a> {
             Call::GetInfo(_) => Kind::GetInfo,
             Call::Register(_) => Kind::Register,
             Call::Sign(_) => Kind::Sign,
-            Call::Deregister(_) => Kind::Deregister,
+            Call::Deregister => Kind::Deregister,
             Call::OpenSettings => Kind::OpenSettings,
         }
     }

@@ -21,6 +21,7 @@ mod lent;
 mod numbers;
 mod params;
 mod reader;
+mod sha256;
 mod table;
 mod tlv;
 mod value;
@@ -30,6 +31,7 @@ pub use command::command;
 pub use complete::complete;
 pub use form::form_of;
 pub use reader::{read_fields, read_rows, signed_part, Fields, Heading, MOST_FIELDS};
+pub use sha256::hash;
 pub use tlv::Field;
 pub use value::{command_by_value, load, store, RecordValue, TableValue};
 pub use writer::{
@@ -54,7 +56,8 @@ pub struct Profile<'a> {
     pub metadata: &'a [u8],
 }
 
-/// "Hashing, keys, signatures, the fingerprint and the display lie outside and lend their results."
+/// "keys, signatures, the fingerprint and the display lie outside and lend their results." Hashing is
+/// the token's own: [`hash`].
 #[derive(Clone, Copy, Debug)]
 pub struct Lent<'a> {
     /// Who the token is.
@@ -63,16 +66,12 @@ pub struct Lent<'a> {
     pub verdict: u32,
     /// The display's result, 0 to 3.
     pub display: u32,
-    /// The mixed token of 32 bytes: the hash of access token followed by AppID.
-    pub mixed: &'a [u8],
     /// A new KeyID of 32 bytes.
     pub key_id: &'a [u8],
     /// Its public key, 1 to 512 bytes.
     pub public_key: &'a [u8],
     /// A nonce of 8 to 32 bytes.
     pub nonce: &'a [u8],
-    /// The hash of the transaction content, 32 bytes.
-    pub hash: &'a [u8],
 }
 
 /// Why a call was refused. A refused call has changed no output.

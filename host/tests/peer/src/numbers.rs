@@ -50,7 +50,9 @@ pub(crate) mod limit {
     pub(crate) const USERNAME: Limit = Limit::Text(1, super::MOST_NAME);
     pub(crate) const CHALLENGE: Limit = Limit::Between(1, 32);
     pub(crate) const APP_ID: Limit = Limit::Between(1, 512);
-    pub(crate) const ACCESS_TOKEN: Limit = Limit::Between(1, 32);
+    /// "An access token must now be 32 bytes, else 0x08, because token and AppID run together without
+    /// a mark".
+    pub(crate) const ACCESS_TOKEN: Limit = Limit::Exactly(32);
     /// "KeyID in Deregister 0 or 32".
     pub(crate) const KEY_ID_OR_ALL: Limit = Limit::EmptyOr(32);
     pub(crate) const NONCE: Limit = Limit::Between(8, 32);

@@ -21,7 +21,7 @@ impl Dice {
 
 fn any_command(dice: &mut Dice) -> Vec<u8> {
     let one = |dice: &mut Dice| dice.below(64) as u8;
-    let mut command = match dice.below(16) {
+    match dice.below(16) {
         0 => with(GETINFO, &[]),
         1 => with(OPEN_SETTINGS, &[]),
         2 => with(DEREGISTER, &[]),
@@ -33,7 +33,11 @@ fn any_command(dice: &mut Dice) -> Vec<u8> {
         ),
         8 => with(SIGN, &[content(b"pay")]),
         _ => with(REGISTER, &[]),
-    };
+    }
+}
+
+/// Some of the commands with other bytes or an early end.
+fn damaged(dice: &mut Dice, mut command: Vec<u8>) -> Vec<u8> {
     if dice.below(4) == 0 {
         for _ in 0..=dice.below(3) {
             let place = dice.below(command.len());
@@ -63,12 +67,12 @@ fn any_list() {
     let mut refusals = 0;
     let mut table = vec![];
     for _ in 0..20_000 {
-        let bytes = any_command(&mut dice);
-        let mixed = [dice.below(6) as u8; 32];
+        let holder = dice.below(6) as u8;
+        let whole = by(holder, any_command(&mut dice));
+        let bytes = damaged(&mut dice, whole);
         let key_id = [dice.below(64) as u8; 32];
         let lent = Lent {
-            mixed: &mixed[..32 - dice.below(20) / 19],
-            key_id: &key_id,
+            key_id: &key_id[..32 - dice.below(20) / 19],
             verdict: (dice.below(20) as u32).saturating_sub(13),
             display: (dice.below(20) as u32).saturating_sub(15),
             ..lent()
@@ -128,7 +132,8 @@ fn any_damage() {
     }
 }
 
-/// A holder's answers are the same whatever strangers do between its calls, also with its KeyIDs.
+/// A holder's answers are the same whatever strangers do between its calls, also with its KeyIDs, and
+/// also where a stranger has its access token with an AppID.
 #[test]
 fn two_afternoons() {
     let own = [
@@ -166,14 +171,18 @@ fn two_afternoons() {
     let mut drafts = 0;
     let crowded = afternoon(&mut |mut table| {
         for _ in 0..20 {
-            let bytes = any_command(&mut dice);
-            let mixed = [OTHER + dice.below(2) as u8; 32];
+            let whole = any_command(&mut dice);
+            let bytes = match dice.below(3) {
+                0 => damaged(&mut dice, by(OTHER, whole)),
+                1 => damaged(&mut dice, by(THIRD, whole)),
+                // Damaged it might lose its AppID and be the holder's.
+                _ => at(b"app", whole),
+            };
             // A KeyID that no earlier call was lent.
             calls += 1;
             let mut key_id = [0xFF; 32];
             key_id[0] = calls;
             let stranger = Lent {
-                mixed: &mixed,
                 key_id: &key_id,
                 ..lent()
             };

@@ -34,9 +34,9 @@ fn there_and_back() {
     let table = value(&stored());
     assert_eq!(table.count, 3);
     let [ann, bob, bo, ..] = table.records;
-    assert_eq!((ann.key_id, ann.mixed), ([1; 32], [OWN; 32]));
+    assert_eq!((ann.key_id, ann.mixed), ([1; 32], mixed(OWN)));
     assert_eq!((&ann.name[..4], ann.name_length), (&b"Ann\0"[..], 3));
-    assert_eq!((bob.mixed, bob.counter), ([OTHER; 32], u32::MAX));
+    assert_eq!((bob.mixed, bob.counter), (mixed(OTHER), u32::MAX));
     assert_eq!((bo.name, bo.name_length), ([b'n'; 128], 128));
     for size in [6912, 7000] {
         assert_eq!(stored_in(&table, size), Ok(stored()));
@@ -73,7 +73,7 @@ fn broken() -> Vec<TableValue> {
     );
     nine.records
         .iter_mut()
-        .for_each(|record| record.mixed = [OWN; 32]);
+        .for_each(|record| record.mixed = mixed(OWN));
     vec![
         changed(|table| table.count = 33),
         changed(|table| table.count = usize::MAX),
@@ -90,7 +90,7 @@ fn broken() -> Vec<TableValue> {
 #[test]
 fn rules() {
     let bad_lent = Lent {
-        mixed: &[],
+        nonce: &[],
         ..lent()
     };
     for table in broken() {
@@ -139,7 +139,7 @@ fn no_part_of_the_table() {
 #[test]
 fn same_as_stored() {
     let wrong = Lent {
-        mixed: &[OWN; 31],
+        nonce: &[],
         verdict: 6,
         ..lent()
     };

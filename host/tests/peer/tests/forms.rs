@@ -39,7 +39,7 @@ fn register_in_the_tables_order() {
             hex("03 28 00 00"),
             skipped(),
             hex("07 28 02 00 08 3E"),
-            hex("05 28 01 00 DD"),
+            access(),
             hex("06 28 01 00 42"),
             hex("0A 2E 01 00 CC"),
             hex("04 28 02 00 61 62"),
@@ -49,10 +49,14 @@ fn register_in_the_tables_order() {
     );
     assert_eq!(
         form(&command),
-        hex(
-            "02 34 24 00 0D 28 01 00 00 04 28 02 00 61 62 0A 2E 01 00 CC 06 28 01 00 42 \
-             07 28 02 00 08 3E 05 28 01 00 DD 03 28 00 00"
-        )
+        join(&[
+            hex(
+                "02 34 43 00 0D 28 01 00 00 04 28 02 00 61 62 0A 2E 01 00 CC 06 28 01 00 42 \
+                 07 28 02 00 08 3E 05 28 20 00"
+            ),
+            vec![OWN; 32],
+            hex("03 28 00 00"),
+        ])
     );
 }
 
@@ -62,7 +66,7 @@ fn sign_in_the_tables_order() {
         SIGN,
         &[
             handle(9),
-            hex("05 28 01 00 DD"),
+            access(),
             handle(2),
             hex("03 28 01 00 EE"),
             hex("0A 2E 01 00 CC"),
@@ -75,8 +79,9 @@ fn sign_in_the_tables_order() {
     );
     // Handles in their own order, the repeated one too.
     let expected = join(&[
-        hex("03 34 8A 00 0D 28 01 00 00 04 28 01 00 61 0A 2E 01 00 CC 10 28 01 00 24"),
-        hex("05 28 01 00 DD 03 28 01 00 EE"),
+        hex("03 34 A9 00 0D 28 01 00 00 04 28 01 00 61 0A 2E 01 00 CC 10 28 01 00 24 05 28 20 00"),
+        vec![OWN; 32],
+        hex("03 28 01 00 EE"),
         handle(9),
         handle(2),
         handle(9),
@@ -92,7 +97,10 @@ fn deregister_in_the_tables_order() {
     );
     assert_eq!(
         form(&command),
-        hex("04 34 13 00 0D 28 01 00 00 04 28 01 00 61 09 2E 00 00 05 28 01 00 AA")
+        join(&[
+            hex("04 34 32 00 0D 28 01 00 00 04 28 01 00 61 09 2E 00 00 05 28 20 00"),
+            vec![OWN; 32],
+        ])
     );
 }
 
@@ -102,14 +110,17 @@ fn empty_children_stay() {
     let command = composite(SIGN, &[access(), content(b""), challenge(), index()]);
     assert_eq!(
         form(&command),
-        hex("03 34 13 00 0D 28 01 00 00 0A 2E 01 00 AA 10 28 00 00 05 28 01 00 AA")
+        join(&[
+            hex("03 34 32 00 0D 28 01 00 00 0A 2E 01 00 AA 10 28 00 00 05 28 20 00"),
+            vec![OWN; 32],
+        ])
     );
 }
 
 #[test]
 fn none_without_a_command() {
     let mut out = b"before".to_vec();
-    let none: [Vec<u8>; 12] = [
+    let none: [Vec<u8>; 14] = [
         vec![],
         hex("01 34 00"),
         hex("05 34 00 00"),
@@ -118,6 +129,9 @@ fn none_without_a_command() {
         hex("01 34 04 00 FF 2F 00 00"),
         hex("01 34 01 00 00"),
         hex("06 34 00 00"),
+        // P7 and P8: the access token has one byte.
+        hex("04 34 0E 00 0D 28 01 00 00 09 2E 00 00 05 28 01 00 AA"),
+        hex("03 34 0F 00 0D 28 01 00 00 0A 2E 01 00 AA 05 28 01 00 AA"),
         with(SIGN, &[tlv(0x2804, b"")]),
         with(SIGN, &[index()]),
         with(SIGN, &vec![handle(1); 9]),
@@ -169,7 +183,7 @@ fn what_is_written_is_its_own_form() {
     assert_eq!(sign, 0);
     assert_eq!(form(&command[..length]), command[..length]);
 
-    let deregister = write_deregister(1, b"app", &[5; 32], &[2], &mut command, &mut length);
+    let deregister = write_deregister(1, b"app", &[5; 32], &[2; 32], &mut command, &mut length);
     assert_eq!(deregister, 0);
     assert_eq!(form(&command[..length]), command[..length]);
 }

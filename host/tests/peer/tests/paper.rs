@@ -56,22 +56,41 @@ fn p6_open_settings() {
     answers("06 34 05 00 0D 28 01 00 00", &[], &not_supported);
 }
 
-#[test]
-fn p7_deregister_none() {
-    let command = "04 34 0E 00 0D 28 01 00 00 09 2E 00 00 05 28 01 00 AA";
-    answers(command, &[], &hex("04 36 06 00 08 28 02 00 00 00"));
-}
-
+const P7: &str = "04 34 0E 00 0D 28 01 00 00 09 2E 00 00 05 28 01 00 AA";
 const P8: &str = "03 34 0F 00 0D 28 01 00 00 0A 2E 01 00 AA 05 28 01 00 AA";
 
+fn ann_and_bo() -> Vec<u8> {
+    [record(1, OWN, b"Ann", 3), record(2, OWN, b"Bo", 9)].concat()
+}
+
+/// "P7, P8 and P9 become 0x08 cases": their access token has one byte.
 #[test]
-fn p8_sign_none() {
-    answers(P8, &[], &hex("03 36 06 00 08 28 02 00 02 00"));
+fn p7_p8_p9_params_invalid() {
+    answers(P7, &[], &hex("04 36 06 00 08 28 02 00 08 00"));
+    answers(P8, &[], &hex("03 36 06 00 08 28 02 00 08 00"));
+    answers(P8, &ann_and_bo(), &hex("03 36 06 00 08 28 02 00 08 00"));
+}
+
+/// What these showed, with an access token of 32 bytes.
+const P7_OF_32: &str = "04 34 2D 00 0D 28 01 00 00 09 2E 00 00 05 28 20 00 \
+    A0 A0 A0 A0 A0 A0 A0 A0 A0 A0 A0 A0 A0 A0 A0 A0 \
+    A0 A0 A0 A0 A0 A0 A0 A0 A0 A0 A0 A0 A0 A0 A0 A0";
+const P8_OF_32: &str = "03 34 2E 00 0D 28 01 00 00 0A 2E 01 00 AA 05 28 20 00 \
+    A0 A0 A0 A0 A0 A0 A0 A0 A0 A0 A0 A0 A0 A0 A0 A0 \
+    A0 A0 A0 A0 A0 A0 A0 A0 A0 A0 A0 A0 A0 A0 A0 A0";
+
+#[test]
+fn deregister_none() {
+    answers(P7_OF_32, &[], &hex("04 36 06 00 08 28 02 00 00 00"));
 }
 
 #[test]
-fn p9_tie() {
-    let table = [record(1, OWN, b"Ann", 3), record(2, OWN, b"Bo", 9)].concat();
+fn sign_none() {
+    answers(P8_OF_32, &[], &hex("03 36 06 00 08 28 02 00 02 00"));
+}
+
+#[test]
+fn tie() {
     let pairs = join(&[
         hex("03 36 63 00 08 28 02 00 00 00").as_slice(),
         &hex("02 38 2B 00 06 28 03 00 41 6E 6E 01 28 20 00"),
@@ -80,7 +99,7 @@ fn p9_tie() {
         &[2; 32],
     ]);
     assert_eq!(pairs.len(), 103);
-    answers(P8, &table, &pairs);
+    answers(P8_OF_32, &ann_and_bo(), &pairs);
 }
 
 #[test]
@@ -100,7 +119,7 @@ fn register_draft_and_record() {
         hex("02 38 57 00 09 2E 20 00").as_slice(),
         &[0xC0; 32],
         &hex("05 28 20 00"),
-        &[OWN; 32],
+        &mixed(OWN),
         &hex("06 28 03 00 41 6E 6E"),
         &hex("0D 2E 04 00 00 00 00 00"),
     ]);
@@ -145,7 +164,7 @@ fn sign_draft_and_counter() {
     let got = gives_draft(&with(SIGN, &[]), &lent(), &table(255));
     assert_eq!(got, (plain, table(256)));
 
-    let hash = [hex("10 2E 20 00"), vec![0x77; 32]].concat();
+    let hash = [hex("10 2E 20 00"), hash_of_pay().to_vec()].concat();
     let confirmed = parts("04 3E 77 00", "0E 2E 05 00 11 12 02 13 14", &hash);
     let got = gives_draft(&with(SIGN, &[content(b"pay")]), &lent(), &table(255));
     assert_eq!(got, (confirmed, table(256)));
@@ -185,10 +204,10 @@ fn level_8_and_9() {
     }
 }
 
-/// As many records of one mixed token, with KeyIDs from `first` on.
-fn records(first: u8, count: u8, mixed: u8) -> Vec<u8> {
+/// As many records of one holder, with KeyIDs from `first` on.
+fn records(first: u8, count: u8, holder: u8) -> Vec<u8> {
     (first..first + count)
-        .flat_map(|key_id| record(key_id, mixed, b"x", 1))
+        .flat_map(|key_id| record(key_id, holder, b"x", 1))
         .collect()
 }
 
@@ -209,8 +228,8 @@ fn eighth_and_ninth_own_record() {
 #[test]
 fn thirty_second_and_thirty_third_record() {
     let most = [
-        records(10, 8, 0xB0),
-        records(20, 8, 0xB1),
+        records(10, 8, OTHER),
+        records(20, 8, THIRD),
         records(30, 8, 0xB2),
         records(40, 7, 0xB3),
     ]
@@ -226,11 +245,7 @@ fn thirty_second_and_thirty_third_record() {
     gives_status(&with(REGISTER, &[]), &lent(), &left, 0x01);
 
     // "a freed place is used again"
-    let stranger = Lent {
-        mixed: &[0xB1; 32],
-        ..lent()
-    };
-    let (_, freed) = run(&deregister(20), &stranger, &left).unwrap();
+    let (_, freed) = run(&by(THIRD, deregister(20)), &lent(), &left).unwrap();
     let (_, again) = gives_draft(&with(REGISTER, &[]), &next, &freed);
     assert_eq!(again, [freed, record(9, OWN, b"Ann", 0)].concat());
 }

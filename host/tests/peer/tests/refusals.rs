@@ -25,7 +25,7 @@ fn numbers() {
 fn order() {
     let bad_table = [0];
     let bad_lent = Lent {
-        mixed: &[],
+        nonce: &[],
         ..lent()
     };
     let short = [(4095, 6912), (4096, 6911), (0, 0)];
@@ -79,7 +79,8 @@ fn commands() {
     }
 }
 
-/// Lent results of a wrong length or number, each with the commands that use it.
+/// Lent results of a wrong length or number, each with the commands that use it. Deregister and Open
+/// settings use none.
 #[test]
 fn lent_results() {
     let long = [0; 513];
@@ -94,7 +95,6 @@ fn lent_results() {
     };
     let three: &[u16] = &[GETINFO, REGISTER, SIGN];
     let two: &[u16] = &[REGISTER, SIGN];
-    let holders: &[u16] = &[REGISTER, SIGN, DEREGISTER];
     let mut wrong: Vec<(Lent, &[u16])> = vec![];
     for length in [0, 8, 10] {
         wrong.push((profile(&long[..length], METADATA), three));
@@ -111,24 +111,10 @@ fn lent_results() {
     for length in [0, 31, 33] {
         wrong.push((
             Lent {
-                mixed: &long[..length],
-                ..good
-            },
-            holders,
-        ));
-        wrong.push((
-            Lent {
                 key_id: &long[..length],
                 ..good
             },
             &[REGISTER],
-        ));
-        wrong.push((
-            Lent {
-                hash: &long[..length],
-                ..good
-            },
-            &[SIGN],
         ));
     }
     for length in [0, 513] {
@@ -361,9 +347,9 @@ fn stored_bytes() {
 
 #[test]
 fn table_rules() {
-    let records = |first: u8, count: u8, mixed: u8| -> Vec<u8> {
+    let records = |first: u8, count: u8, holder: u8| -> Vec<u8> {
         (first..first + count)
-            .flat_map(|key_id| record(key_id, mixed, b"x", 1))
+            .flat_map(|key_id| record(key_id, holder, b"x", 1))
             .collect()
     };
     // At most 8 with one mixed token, wherever they stand.
@@ -385,12 +371,12 @@ fn table_rules() {
     assert!(!is_table(&many(33)));
 
     // No KeyID twice, also under two mixed tokens.
-    for mixed in [OWN, OTHER] {
+    for holder in [OWN, OTHER] {
         let middle = records(50, 8, 0xB7);
         let twice = [
             record(1, OWN, b"Ann", 3),
             middle,
-            record(1, mixed, b"Bo", 4),
+            record(1, holder, b"Bo", 4),
         ];
         assert!(!is_table(&twice.concat()));
     }

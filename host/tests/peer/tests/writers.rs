@@ -131,14 +131,14 @@ const REGISTER: Register = Register {
     challenge: &[0xAA],
     username: b"Ann",
     attestation: 0x3E07,
-    access_token: &[0xAA],
+    access_token: &[0xAA; 32],
     verify_token: NOT_GIVEN,
 };
 const SIGN: Sign = Sign {
     app_id: NOT_GIVEN,
     challenge: &[0xAA],
     content: NOT_GIVEN,
-    access_token: &[0xAA],
+    access_token: &[0xAA; 32],
     verify_token: NOT_GIVEN,
     handles: &[],
     handle_sizes: &[],
@@ -146,7 +146,7 @@ const SIGN: Sign = Sign {
 const DEREGISTER: Deregister = Deregister {
     app_id: NOT_GIVEN,
     key_id: &[],
-    access_token: &[0xAA],
+    access_token: &[0xAA; 32],
 };
 
 /// The shortest Register but for one field.
@@ -172,24 +172,17 @@ fn deregister<'a>(change: impl Fn(&mut Deregister<'a>)) -> Result<Vec<u8>, u32> 
 fn the_shortest_of_each() {
     let get_info = written(4, write_get_info);
     assert_eq!(get_info, Ok(hex("01 34 00 00")));
-    assert_eq!(
-        REGISTER.write(),
-        Ok(hex(
-            "02 34 1C 00 0D 28 01 00 00 0A 2E 01 00 AA 06 28 03 00 41 6E 6E \
-             07 28 02 00 07 3E 05 28 01 00 AA"
-        ))
+    let token = vec![0xAA; 32];
+    let register = hex(
+        "02 34 3B 00 0D 28 01 00 00 0A 2E 01 00 AA 06 28 03 00 41 6E 6E \
+         07 28 02 00 07 3E 05 28 20 00",
     );
-    // P8, P7 and P6.
-    assert_eq!(
-        SIGN.write(),
-        Ok(hex(
-            "03 34 0F 00 0D 28 01 00 00 0A 2E 01 00 AA 05 28 01 00 AA"
-        ))
-    );
-    assert_eq!(
-        DEREGISTER.write(),
-        Ok(hex("04 34 0E 00 0D 28 01 00 00 09 2E 00 00 05 28 01 00 AA"))
-    );
+    assert_eq!(REGISTER.write(), Ok(join(&[&register, &token])));
+    let sign = hex("03 34 2E 00 0D 28 01 00 00 0A 2E 01 00 AA 05 28 20 00");
+    assert_eq!(SIGN.write(), Ok(join(&[&sign, &token])));
+    let deregister = hex("04 34 2D 00 0D 28 01 00 00 09 2E 00 00 05 28 20 00");
+    assert_eq!(DEREGISTER.write(), Ok(join(&[&deregister, &token])));
+    // P6.
     let open_settings = written(9, write_open_settings);
     assert_eq!(open_settings, Ok(hex("06 34 05 00 0D 28 01 00 00")));
 }
@@ -201,16 +194,18 @@ fn register_with_every_field() {
         challenge: &[0xC1, 0xC2],
         username: "é".as_bytes(),
         attestation: 0x3E08,
-        access_token: &[0xD1, 0xD2],
+        access_token: &[0xD1; 32],
         verify_token: (1, &[0xE1]),
     };
-    assert_eq!(
-        register.write(),
-        Ok(hex(
-            "02 34 28 00 0D 28 01 00 00 04 28 02 00 61 62 0A 2E 02 00 C1 C2 \
-             06 28 02 00 C3 A9 07 28 02 00 08 3E 05 28 02 00 D1 D2 03 28 01 00 E1"
-        ))
-    );
+    let expected = join(&[
+        hex(
+            "02 34 46 00 0D 28 01 00 00 04 28 02 00 61 62 0A 2E 02 00 C1 C2 \
+             06 28 02 00 C3 A9 07 28 02 00 08 3E 05 28 20 00",
+        ),
+        vec![0xD1; 32],
+        hex("03 28 01 00 E1"),
+    ]);
+    assert_eq!(register.write(), Ok(expected));
 }
 
 #[test]
@@ -219,21 +214,25 @@ fn sign_with_every_field() {
         app_id: (1, b"ab"),
         challenge: &[0xC1, 0xC2],
         content: (1, b"5 pounds"),
-        access_token: &[0xD1],
+        access_token: &[0xD1; 32],
         verify_token: (1, &[0xE1]),
         handles: &[[7; 32], [3; 32], [7; 32]].concat(),
         handle_sizes: &[32; 3],
     };
-    let mut expected = hex(
-        "03 34 93 00 0D 28 01 00 00 04 28 02 00 61 62 0A 2E 02 00 C1 C2 \
-         10 28 08 00 35 20 70 6F 75 6E 64 73 05 28 01 00 D1 03 28 01 00 E1",
-    );
+    let mut expected = join(&[
+        hex(
+            "03 34 B2 00 0D 28 01 00 00 04 28 02 00 61 62 0A 2E 02 00 C1 C2 \
+             10 28 08 00 35 20 70 6F 75 6E 64 73 05 28 20 00",
+        ),
+        vec![0xD1; 32],
+        hex("03 28 01 00 E1"),
+    ]);
     // As given: neither sorted nor without the second 7.
     for byte in [7, 3, 7] {
         expected.extend(hex("01 28 20 00"));
         expected.extend([byte; 32]);
     }
-    assert_eq!(expected.len(), 4 + 0x93);
+    assert_eq!(expected.len(), 4 + 0xB2);
     assert_eq!(sign.write(), Ok(expected));
 }
 
@@ -242,12 +241,13 @@ fn deregister_with_every_field() {
     let deregister = Deregister {
         app_id: (1, b"ab"),
         key_id: &[0x1D; 32],
-        access_token: &[0xD1, 0xD2],
+        access_token: &[0xD1; 32],
     };
     let expected = join(&[
-        hex("04 34 35 00 0D 28 01 00 00 04 28 02 00 61 62 09 2E 20 00"),
+        hex("04 34 53 00 0D 28 01 00 00 04 28 02 00 61 62 09 2E 20 00"),
         vec![0x1D; 32],
-        hex("05 28 02 00 D1 D2"),
+        hex("05 28 20 00"),
+        vec![0xD1; 32],
     ]);
     assert_eq!(deregister.write(), Ok(expected));
 }
@@ -259,25 +259,26 @@ fn given_and_empty() {
         verify_token: (1, &[]),
         ..REGISTER
     };
-    assert_eq!(
-        register.write(),
-        Ok(hex(
-            "02 34 20 00 0D 28 01 00 00 0A 2E 01 00 AA 06 28 03 00 41 6E 6E \
-             07 28 02 00 07 3E 05 28 01 00 AA 03 28 00 00"
-        ))
-    );
+    let expected = join(&[
+        hex(
+            "02 34 3F 00 0D 28 01 00 00 0A 2E 01 00 AA 06 28 03 00 41 6E 6E \
+             07 28 02 00 07 3E 05 28 20 00",
+        ),
+        vec![0xAA; 32],
+        hex("03 28 00 00"),
+    ]);
+    assert_eq!(register.write(), Ok(expected));
     let sign = Sign {
         content: (1, &[]),
         verify_token: (1, &[]),
         ..SIGN
     };
-    assert_eq!(
-        sign.write(),
-        Ok(hex(
-            "03 34 17 00 0D 28 01 00 00 0A 2E 01 00 AA 10 28 00 00 \
-             05 28 01 00 AA 03 28 00 00"
-        ))
-    );
+    let expected = join(&[
+        hex("03 34 36 00 0D 28 01 00 00 0A 2E 01 00 AA 10 28 00 00 05 28 20 00"),
+        vec![0xAA; 32],
+        hex("03 28 00 00"),
+    ]);
+    assert_eq!(sign.write(), Ok(expected));
 }
 
 #[test]
@@ -299,13 +300,34 @@ fn app_id_has_1_to_512_bytes() {
 }
 
 #[test]
-fn challenge_and_access_token_have_1_to_32_bytes() {
+fn challenge_has_1_to_32_bytes() {
     for (length, right) in [(0, false), (1, true), (32, true), (33, false)] {
         let bytes = vec![0x5A; length];
         for written in [
             register(|fields| fields.challenge = &bytes),
-            register(|fields| fields.access_token = &bytes),
             sign(|fields| fields.challenge = &bytes),
+        ] {
+            assert_eq!(written.is_ok(), right);
+            assert!(right || written == FIELD);
+        }
+    }
+}
+
+#[test]
+fn access_token_has_32_bytes() {
+    for (length, right) in [
+        (0, false),
+        (1, false),
+        (31, false),
+        (32, true),
+        (33, false),
+        (64, false),
+        (288, false),
+        (65_568, false),
+    ] {
+        let bytes = vec![0x5A; length];
+        for written in [
+            register(|fields| fields.access_token = &bytes),
             sign(|fields| fields.access_token = &bytes),
             deregister(|fields| fields.access_token = &bytes),
         ] {
@@ -407,7 +429,7 @@ fn at_most_8_handles_of_32_bytes() {
             handle_sizes: &[32; 8][..count],
             ..SIGN
         };
-        assert_eq!(sign.write().unwrap().len(), 19 + 36 * count);
+        assert_eq!(sign.write().unwrap().len(), 50 + 36 * count);
     }
     let equal = [0x11; 32 * 9];
     for handles in [&bytes[..], &equal] {
@@ -456,8 +478,8 @@ fn lengths_of_handles() {
     }
 }
 
-/// The shortest Register has room for 8,192 - 32 - 4 bytes more, the shortest Sign for
-/// 8,192 - 19 - 4.
+/// The shortest Register has room for 8,192 - 63 - 4 bytes more, the shortest Sign for
+/// 8,192 - 50 - 4.
 #[test]
 fn at_most_8192_bytes() {
     let bytes = vec![0x55; 70_000];
@@ -467,26 +489,26 @@ fn at_most_8192_bytes() {
         (2, false),
         (40, false),
         // Lengths of which the low 16 bits are good.
-        (65_536 - 8_156, false),
+        (65_536 - 8_125, false),
         (65_536 - 8_000, false),
     ] {
         let every = Sign {
             app_id: (1, &bytes[..512]),
             challenge: &bytes[..32],
             access_token: &bytes[..32],
-            // 19 + 31 + 31 + 516 + 8 * 36 are 885, and two headers.
+            // 50 + 31 + 516 + 8 * 36 are 885, and two headers.
             content: (1, &bytes[..7_299 + more]),
             verify_token: (1, &[]),
             handles: &bytes[..256],
             handle_sizes: &[32; 8],
         };
         for written in [
-            register(|fields| fields.verify_token = (1, &bytes[..8_156 + more])),
-            sign(|fields| fields.content = (1, &bytes[..8_169 + more])),
-            sign(|fields| fields.verify_token = (1, &bytes[..8_169 + more])),
+            register(|fields| fields.verify_token = (1, &bytes[..8_125 + more])),
+            sign(|fields| fields.content = (1, &bytes[..8_138 + more])),
+            sign(|fields| fields.verify_token = (1, &bytes[..8_138 + more])),
             sign(|fields| {
                 fields.content = (1, &bytes[..4_000 + more]);
-                fields.verify_token = (1, &bytes[..4_165]);
+                fields.verify_token = (1, &bytes[..4_134]);
             }),
             every.write(),
         ] {
@@ -529,16 +551,16 @@ fn an_output_as_long_as_the_command() {
         ..SIGN
     };
     assert_eq!(written(4, write_get_info).unwrap().len(), 4);
-    assert_eq!(REGISTER.write_into(32).unwrap().len(), 32);
-    assert_eq!(sign.write_into(91).unwrap().len(), 91);
-    assert_eq!(DEREGISTER.write_into(18).unwrap().len(), 18);
+    assert_eq!(REGISTER.write_into(63).unwrap().len(), 63);
+    assert_eq!(sign.write_into(122).unwrap().len(), 122);
+    assert_eq!(DEREGISTER.write_into(49).unwrap().len(), 49);
     assert_eq!(written(9, write_open_settings).unwrap().len(), 9);
 
     for less in [1, 2, 3, 4] {
         assert_eq!(written(4 - less, write_get_info), OUTPUT);
-        assert_eq!(REGISTER.write_into(32 - less), OUTPUT);
-        assert_eq!(sign.write_into(91 - less), OUTPUT);
-        assert_eq!(DEREGISTER.write_into(18 - less), OUTPUT);
+        assert_eq!(REGISTER.write_into(63 - less), OUTPUT);
+        assert_eq!(sign.write_into(122 - less), OUTPUT);
+        assert_eq!(DEREGISTER.write_into(49 - less), OUTPUT);
         assert_eq!(written(9 - less, write_open_settings), OUTPUT);
     }
     for output in [
@@ -569,7 +591,12 @@ fn six_before_one() {
         key_id: &[0; 31],
         ..DEREGISTER
     };
+    let short = Deregister {
+        access_token: &[0xAA; 31],
+        ..DEREGISTER
+    };
     for refused in [
+        short.write_into(0),
         register.write_into(0),
         sign.write_into(0),
         long.write_into(0),

@@ -1,7 +1,10 @@
-//! The nine entries as `host/include/uaf_token.h` declares them. Nothing checks these declarations
+//! The ten entries as `host/include/uaf_token.h` declares them. Nothing checks these declarations
 //! against the archive but calling them.
 
 use uaf_peer::MOST_FIELDS;
+
+/// `UAF_HASH_SIZE`.
+pub const HASH_SIZE: usize = 32;
 
 extern "C" {
     pub fn uaf_write_get_info(
@@ -71,6 +74,14 @@ extern "C" {
         command_length: *mut usize,
     ) -> u32;
 
+    pub fn uaf_hash(
+        first: *const u8,
+        first_size: usize,
+        second: *const u8,
+        second_size: usize,
+        hash: *mut [u8; HASH_SIZE],
+    );
+
     pub fn uaf_command(
         command: *const u8,
         command_size: usize,
@@ -83,16 +94,12 @@ extern "C" {
         metadata_size: usize,
         verdict: u32,
         display: u32,
-        mixed: *const u8,
-        mixed_size: usize,
         key_id: *const u8,
         key_id_size: usize,
         public_key: *const u8,
         public_key_size: usize,
         nonce: *const u8,
         nonce_size: usize,
-        hash: *const u8,
-        hash_size: usize,
         table: *const u8,
         table_size: usize,
         response: *mut u8,

@@ -1,4 +1,4 @@
-//! The token for tests in Rust: its nine C entries as safe functions with the signatures and types
+//! The token for tests in Rust: its ten C entries as safe functions with the signatures and types
 //! of `uaf_peer`, so that one can stand in for the other. `raw` has the forms that show what a call
 //! leaves in the numbers lent to it; the writers of commands have no other.
 
@@ -6,6 +6,7 @@ mod entries;
 pub mod raw;
 
 use core::ops::Range;
+pub use entries::HASH_SIZE;
 pub use raw::{write_deregister, write_get_info, write_open_settings, write_register, write_sign};
 use uaf_peer::{Answer, Field, Fields, Lent, Refusal, Served, MOST_FIELDS};
 
@@ -63,6 +64,12 @@ pub fn command(
         answer,
         table_length: numbers.table_length,
     })
+}
+
+pub fn hash(first: &[u8], second: &[u8]) -> [u8; HASH_SIZE] {
+    let mut hash = [0; HASH_SIZE];
+    raw::hash(first, second, &mut hash);
+    hash
 }
 
 pub fn complete(

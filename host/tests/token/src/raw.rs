@@ -1,7 +1,7 @@
 //! The entries over slices. The numbers that a call writes are lent with whatever they hold, so that
 //! a test sees what a call leaves in them, also after a refusal.
 
-use crate::entries;
+use crate::entries::{self, HASH_SIZE};
 use uaf_peer::{Lent, MOST_FIELDS};
 
 /// The numbers that a command writes.
@@ -55,16 +55,12 @@ pub fn command(
             profile.metadata.len(),
             lent.verdict,
             lent.display,
-            lent.mixed.as_ptr(),
-            lent.mixed.len(),
             lent.key_id.as_ptr(),
             lent.key_id.len(),
             lent.public_key.as_ptr(),
             lent.public_key.len(),
             lent.nonce.as_ptr(),
             lent.nonce.len(),
-            lent.hash.as_ptr(),
-            lent.hash.len(),
             table.as_ptr(),
             table.len(),
             response.as_mut_ptr(),
@@ -75,6 +71,20 @@ pub fn command(
             &mut numbers.response_length,
             &mut numbers.table_length,
         )
+    }
+}
+
+/// `uaf_hash`, which has no refusal.
+pub fn hash(first: &[u8], second: &[u8], hash: &mut [u8; HASH_SIZE]) {
+    // Safety: as in `command`.
+    unsafe {
+        entries::uaf_hash(
+            first.as_ptr(),
+            first.len(),
+            second.as_ptr(),
+            second.len(),
+            hash,
+        );
     }
 }
 

@@ -5,6 +5,8 @@ use uaf_token::{
     write_deregister, write_get_info, write_open_settings, write_register, write_sign,
 };
 
+/// The access token of the commands that are right.
+const TOKEN: [u8; 32] = [0xDD; 32];
 const UNSET: usize = 77;
 const FILL: u8 = 0xEE;
 
@@ -34,7 +36,7 @@ fn register(name: &[u8], attestation: u32, size: usize) -> Result<Vec<u8>, u32> 
             &[0xCC],
             name,
             attestation,
-            &[0xDD],
+            &TOKEN,
             1,
             &[],
             command,
@@ -58,7 +60,7 @@ fn sign(
             &[0xCC],
             content_given,
             content,
-            &[0xDD],
+            &TOKEN,
             0,
             &[],
             handles,
@@ -71,7 +73,7 @@ fn sign(
 
 fn deregister(app_id: &[u8], key_id: &[u8], size: usize) -> Result<Vec<u8>, u32> {
     written(size, |command, length| {
-        write_deregister(1, app_id, key_id, &[0xDD], command, length)
+        write_deregister(1, app_id, key_id, &TOKEN, command, length)
     })
 }
 
@@ -90,17 +92,19 @@ fn without_fields() {
 #[test]
 fn a_register() {
     #[rustfmt::skip]
-    let expected = [
-        0x02, 0x34, 37, 0, 0x0D, 0x28, 1, 0, 0, 0x04, 0x28, 2, 0, b'a', b'b',
+    let mut expected = vec![
+        0x02, 0x34, 68, 0, 0x0D, 0x28, 1, 0, 0, 0x04, 0x28, 2, 0, b'a', b'b',
         0x0A, 0x2E, 1, 0, 0xCC, 0x06, 0x28, 2, 0, 0xC3, 0xA9, 0x07, 0x28, 2, 0, 0x08, 0x3E,
-        0x05, 0x28, 1, 0, 0xDD, 0x03, 0x28, 0, 0,
+        0x05, 0x28, 32, 0,
     ];
-    // The last four are the empty USERVERIFY_TOKEN.
-    assert_eq!(expected.len(), 41);
-    assert_eq!(register("é".as_bytes(), 0x3E08, 41), Ok(expected.to_vec()));
-    assert_eq!(register("é".as_bytes(), 0x3E08, 40), Err(1));
+    expected.extend(TOKEN);
+    // An empty USERVERIFY_TOKEN.
+    expected.extend([0x03, 0x28, 0, 0]);
+    assert_eq!(expected.len(), 72);
+    assert_eq!(register("é".as_bytes(), 0x3E08, 72), Ok(expected));
+    assert_eq!(register("é".as_bytes(), 0x3E08, 71), Err(1));
     for (name, attestation) in [(&b"\xC3"[..], 0x3E08), (b"", 0x3E08), (b"Ann", 65_536)] {
-        assert_eq!(register(name, attestation, 40), Err(6));
+        assert_eq!(register(name, attestation, 71), Err(6));
     }
 }
 
@@ -109,48 +113,68 @@ fn a_sign() {
     let handles = [[7; 32], [3; 32], [7; 32]].concat();
     #[rustfmt::skip]
     let mut expected = vec![
-        0x03, 0x34, 129, 0, 0x0D, 0x28, 1, 0, 0, 0x0A, 0x2E, 1, 0, 0xCC,
-        0x10, 0x28, 2, 0, b'$', b'5', 0x05, 0x28, 1, 0, 0xDD,
+        0x03, 0x34, 160, 0, 0x0D, 0x28, 1, 0, 0, 0x0A, 0x2E, 1, 0, 0xCC,
+        0x10, 0x28, 2, 0, b'$', b'5', 0x05, 0x28, 32, 0,
     ];
+    expected.extend(TOKEN);
     for byte in [7, 3, 7] {
         expected.extend([0x01, 0x28, 32, 0]);
         expected.extend([byte; 32]);
     }
     assert_eq!(sign(1, b"$5", &handles, &[32; 3], 8192), Ok(expected));
-    assert_eq!(sign(1, b"$5", &handles, &[32; 3], 132), Err(1));
+    assert_eq!(sign(1, b"$5", &handles, &[32; 3], 163), Err(1));
     assert_eq!(sign(2, b"$5", &handles, &[32; 3], 0), Err(6));
     assert_eq!(sign(1, b"$5", &handles, &[32; 2], 0), Err(6));
     assert_eq!(sign(1, b"$5", &handles[..64], &[31, 33], 0), Err(6));
     assert_eq!(sign(0, b"", &[7; 288], &[32; 9], 0), Err(6));
 }
 
-/// Of the 8,192 bytes the content has all but its header and the 19 of the rest.
+/// Of the 8,192 bytes the content has all but its header and the 50 of the rest.
 #[test]
 fn the_longest_sign() {
-    let longest = sign(1, &[0; 8_169], &[], &[], 8_192).expect("8,192 bytes");
+    let longest = sign(1, &[0; 8_138], &[], &[], 8_192).expect("8,192 bytes");
     assert_eq!(longest.len(), 8_192);
     assert_eq!(longest[..4], [0x03, 0x34, 0xFC, 0x1F]);
-    assert_eq!(sign(1, &[0; 8_169], &[], &[], 8_191), Err(1));
-    assert_eq!(sign(1, &[0; 8_170], &[], &[], 9_000), Err(6));
+    assert_eq!(sign(1, &[0; 8_138], &[], &[], 8_191), Err(1));
+    assert_eq!(sign(1, &[0; 8_139], &[], &[], 9_000), Err(6));
     assert_eq!(sign(1, &[0; 70_000], &[], &[], 9_000), Err(6));
     // What is not given is not looked at.
     assert_eq!(
-        sign(0, &[0; 70_000], &[], &[], 19).map(|sign| sign.len()),
-        Ok(19)
+        sign(0, &[0; 70_000], &[], &[], 50).map(|sign| sign.len()),
+        Ok(50)
     );
 }
 
 #[test]
 fn a_deregister() {
     #[rustfmt::skip]
-    let expected = [
-        0x04, 0x34, 19, 0, 0x0D, 0x28, 1, 0, 0, 0x04, 0x28, 1, 0, b'a',
-        0x09, 0x2E, 0, 0, 0x05, 0x28, 1, 0, 0xDD,
+    let mut expected = vec![
+        0x04, 0x34, 50, 0, 0x0D, 0x28, 1, 0, 0, 0x04, 0x28, 1, 0, b'a',
+        0x09, 0x2E, 0, 0, 0x05, 0x28, 32, 0,
     ];
-    assert_eq!(expected.len(), 23);
-    assert_eq!(deregister(b"a", &[], 23), Ok(expected.to_vec()));
-    assert_eq!(deregister(b"a", &[], 22), Err(1));
-    assert_eq!(deregister(b"a", &[0; 31], 22), Err(6));
-    assert_eq!(deregister(b"", &[], 22), Err(6));
-    assert_eq!(deregister(&[0; 513], &[], 22), Err(6));
+    expected.extend(TOKEN);
+    assert_eq!(expected.len(), 54);
+    assert_eq!(deregister(b"a", &[], 54), Ok(expected));
+    assert_eq!(deregister(b"a", &[], 53), Err(1));
+    assert_eq!(deregister(b"a", &[0; 31], 53), Err(6));
+    assert_eq!(deregister(b"", &[], 53), Err(6));
+    assert_eq!(deregister(&[0; 513], &[], 53), Err(6));
+}
+
+/// An access token has 32 bytes in each command that gives one.
+#[test]
+fn tokens_of_other_lengths() {
+    for length in [0, 1, 31, 33] {
+        let token = &vec![0xDD; length];
+        let register = written(1024, |command, n| {
+            write_register(0, &[], &[0xCC], b"Ann", 0x3E07, token, 0, &[], command, n)
+        });
+        let sign = written(1024, |command, n| {
+            write_sign(0, &[], &[0xCC], 0, &[], token, 0, &[], &[], &[], command, n)
+        });
+        let deregister = written(1024, |command, n| {
+            write_deregister(0, &[], &[], token, command, n)
+        });
+        assert_eq!([register, sign, deregister], [Err(6), Err(6), Err(6)]);
+    }
 }

@@ -1,6 +1,8 @@
 //! Bytes of commands, records and responses, put together TLV by TLV, so that wrong ones can be
 //! made as well as right ones.
 
+use uaf_peer::hash;
+
 pub const GETINFO: u16 = 0x3401;
 pub const REGISTER: u16 = 0x3402;
 pub const SIGN: u16 = 0x3403;
@@ -41,7 +43,7 @@ pub const SKIPPED: u16 = 0x0FFF;
 pub const SKIPPED_COMPOSITE: u16 = 0x1FFF;
 pub const CRITICAL: u16 = 0x2FFF;
 
-/// Mixed tokens of three holders.
+/// Access tokens of three holders, whose commands give no AppID.
 pub const ANN: [u8; 32] = [0xA0; 32];
 pub const BO: [u8; 32] = [0xB0; 32];
 pub const CY: [u8; 32] = [0xC0; 32];
@@ -61,8 +63,13 @@ pub fn key(number: u8) -> Vec<u8> {
     [number, 0x11].repeat(16)
 }
 
+/// The stored form of a record of the holder with this access token and no AppID.
+pub fn record(number: u8, token: &[u8; 32], name: &[u8], count: u32) -> Vec<u8> {
+    stored(number, &hash(token, b""), name, count)
+}
+
 /// The stored form of a record, of whatever lengths.
-pub fn record(number: u8, mixed: &[u8], name: &[u8], count: u32) -> Vec<u8> {
+pub fn stored(number: u8, mixed: &[u8], name: &[u8], count: u32) -> Vec<u8> {
     holding(
         USERNAME_AND_KEYHANDLE,
         &[

@@ -1,6 +1,6 @@
 //! What the program's calls are lent, each with the letter that sets it in a script.
 
-use crate::bytes::{key, ANN};
+use crate::bytes::{key, walk, ACCESS_TOKEN};
 use uaf_peer::{Lent, Profile, TableValue};
 
 /// An argument as the script has it. Every number has 32 bits there, little-endian, so that none is
@@ -26,11 +26,9 @@ pub struct Call {
     pub metadata: Vec<u8>,
     pub verdict: u32,
     pub display: u32,
-    pub mixed: Vec<u8>,
     pub key_id: Vec<u8>,
     pub public_key: Vec<u8>,
     pub nonce: Vec<u8>,
-    pub hash: Vec<u8>,
     pub response_size: u32,
     pub table_out_size: u32,
     /// How a table by value is made to break a rule, or 0.
@@ -50,11 +48,9 @@ pub fn of(command: Vec<u8>) -> Call {
         metadata: (0x30..0x3F).collect(),
         verdict: 0,
         display: 0,
-        mixed: ANN.to_vec(),
         key_id: vec![0; 32],
         public_key: (1..66).collect(),
         nonce: (0x80..0x90).collect(),
-        hash: (0xC0..0xE0).collect(),
         response_size: 4096,
         table_out_size: 6912,
         spoilt: 0,
@@ -70,10 +66,13 @@ impl Call {
         Call { key_id, ..self }
     }
 
-    /// Lent this holder's mixed token.
-    pub fn by(self, mixed: [u8; 32]) -> Call {
-        let mixed = mixed.to_vec();
-        Call { mixed, ..self }
+    /// With this access token in place of the one that the command has.
+    pub fn by(mut self, token: [u8; 32]) -> Call {
+        let children = walk(&self.command, 0);
+        let has = children.iter().find(|met| met.tag == ACCESS_TOKEN);
+        let place = has.expect("an access token").place;
+        self.command[place..place + 32].copy_from_slice(&token);
+        self
     }
 
     pub fn verdict(self, verdict: u32) -> Call {
@@ -102,11 +101,9 @@ impl Call {
             bytes('m', &self.metadata),
             number('u', self.verdict),
             number('d', self.display),
-            bytes('x', &self.mixed),
             bytes('k', &self.key_id),
             bytes('p', &self.public_key),
             bytes('n', &self.nonce),
-            bytes('h', &self.hash),
             bytes('t', table),
             number('o', self.response_size),
             number('w', self.table_out_size),
@@ -125,11 +122,9 @@ impl Call {
             },
             verdict: self.verdict,
             display: self.display,
-            mixed: &self.mixed,
             key_id: &self.key_id,
             public_key: &self.public_key,
             nonce: &self.nonce,
-            hash: &self.hash,
         }
     }
 }

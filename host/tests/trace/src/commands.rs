@@ -29,9 +29,18 @@ pub fn examples(t: &mut Trace) {
     let p8 = [
         0x03, 0x34, 0x0F, 0, 0x0D, 0x28, 1, 0, 0, 0x0A, 0x2E, 1, 0, 0xAA, 0x05, 0x28, 1, 0, 0xAA,
     ];
-    t.run("P8", of(p8.to_vec()));
-    t.give(&[anns(1), record(2, &ANN, b"Bo", 0)]);
-    t.run("P9", of(p8.to_vec()).dumped());
+    let invalid = [0x03, 0x36, 6, 0, 0x08, 0x28, 2, 0, 0x08, 0];
+    assert_eq!(t.run("P8", of(p8.to_vec())), invalid);
+    let anns_and_bos = [anns(1), record(2, &ANN, b"Bo", 0)];
+    t.give(&anns_and_bos);
+    assert_eq!(t.run("P9", of(p8.to_vec()).dumped()), invalid);
+    t.say("What P7 to P9 showed, with a token of 32 bytes");
+    t.give(&[]);
+    t.run("P7 with a token of 32", of(deregister(&[])));
+    t.run("P8 with a token of 32", of(sign(&[])));
+    t.give(&anns_and_bos);
+    let tie = t.run("P9 with a token of 32", of(sign(&[])).dumped());
+    assert_eq!((tie.len(), &tie[18..21]), (103, &b"Ann"[..]));
 }
 
 pub fn information(t: &mut Trace) {
@@ -94,6 +103,11 @@ pub fn removals(t: &mut Trace) {
     }
     let without = holding(DEREGISTER, &[index(), access_token()]);
     t.run("deregister, no KeyID", of(without));
+    for length in [0, 1, 31, 33] {
+        let given = [index(), tlv(KEYID, &key(2)), token(&vec![0xB0; length])];
+        let name = format!("deregister, access token of {length}");
+        t.run(&name, of(holding(DEREGISTER, &given)));
+    }
     let denied = of(deregister(&key(2))).by(BO).verdict(1);
     t.run("deregister, the verdict is not asked", denied);
     let last = of(deregister(&key(4))).by(BO).dumped();

@@ -32,24 +32,21 @@ fn information(t: &mut Trace) {
     ];
     refused(t, &get_info(), "", &wrong);
     let unused = Call {
-        mixed: vec![],
         key_id: vec![],
         verdict: 9,
         display: 9,
         public_key: vec![],
         nonce: vec![],
-        hash: vec![],
         ..of(get_info())
     };
-    t.run("info uses no mixed token, KeyID, verdict", unused);
+    t.run("info uses no KeyID, verdict", unused);
 }
 
 fn registration(t: &mut Trace) {
-    let wrong: [(&str, Change); 7] = [
+    let wrong: [(&str, Change); 6] = [
         ("aaid 10", |call| call.aaid = vec![0; 10]),
         ("metadata 14", |call| call.metadata = vec![0; 14]),
         ("verdict 6", |call| call.verdict = 6),
-        ("mixed 31", |call| call.mixed = vec![0; 31]),
         ("key 33", |call| call.key_id = vec![0; 33]),
         ("public 0", |call| call.public_key = vec![]),
         ("public 513", |call| call.public_key = vec![0; 513]),
@@ -59,22 +56,19 @@ fn registration(t: &mut Trace) {
         key_id: key(2),
         display: 9,
         nonce: vec![],
-        hash: vec![],
         ..of(register())
     };
-    t.run("register uses no display, nonce, hash", unused);
+    t.run("register uses no display, nonce", unused);
 }
 
 fn signature(t: &mut Trace) {
-    let wrong: [(&str, Change); 8] = [
+    let wrong: [(&str, Change); 6] = [
         ("aaid 0", |call| call.aaid = vec![]),
         ("metadata 0", |call| call.metadata = vec![]),
         ("verdict 255", |call| call.verdict = 255),
         ("display 4", |call| call.display = 4),
-        ("mixed 33", |call| call.mixed = vec![0; 33]),
         ("nonce 7", |call| call.nonce = vec![0; 7]),
         ("nonce 33", |call| call.nonce = vec![0; 33]),
-        ("hash 31", |call| call.hash = vec![0; 31]),
     ];
     refused(t, &sign(&[]), "sign, ", &wrong);
     let unused = Call {
@@ -86,23 +80,25 @@ fn signature(t: &mut Trace) {
 }
 
 fn rest(t: &mut Trace) {
-    let wrong: [(&str, Change); 1] = [("mixed 0", |call| call.mixed = vec![])];
-    refused(t, &deregister(&[]), "deregister, ", &wrong);
-    let unused = Call {
+    let nothing = |command| Call {
         aaid: vec![],
+        version: u32::MAX,
+        signature_algorithm: u32::MAX,
+        key_algorithm: u32::MAX,
         metadata: vec![],
         verdict: 9,
+        display: 9,
         key_id: vec![],
-        ..of(deregister(&key(7)))
+        public_key: vec![],
+        nonce: vec![],
+        ..of(command)
     };
-    t.run("deregister uses the mixed token alone", unused);
-    let nothing = Call {
-        aaid: vec![],
-        metadata: vec![],
-        mixed: vec![],
-        ..of(settings())
-    };
-    t.run("settings use nothing", nothing);
+    for (name, command) in [
+        ("deregister uses nothing", deregister(&key(7))),
+        ("settings use nothing", settings()),
+    ] {
+        assert!(!t.run(name, nothing(command)).is_empty());
+    }
 }
 
 /// A lent number and how it is set.

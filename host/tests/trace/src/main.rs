@@ -10,6 +10,8 @@ mod commands;
 mod completions;
 mod drafts;
 mod forms;
+mod hashes;
+mod holders;
 mod lent;
 mod make;
 mod names;
@@ -29,7 +31,7 @@ use std::{env, fs, io};
 /// A part of the script.
 pub type Section = fn(&mut Trace);
 
-const COMMANDS: [Section; 11] = [
+const COMMANDS: [Section; 12] = [
     commands::examples,
     commands::information,
     registrations::registrations,
@@ -37,6 +39,7 @@ const COMMANDS: [Section; 11] = [
     signatures::signatures,
     commands::removals,
     commands::open_settings,
+    holders::holders,
     refusals::refusals,
     lent::lent,
     refusals::order,
@@ -54,6 +57,7 @@ fn trace() -> Trace {
     forms::spoilt(&mut t);
     forms::mixed(&mut t);
     writings::writings(&mut t);
+    hashes::hashes(&mut t);
     t
 }
 

@@ -10,8 +10,13 @@ pub fn challenge() -> Vec<u8> {
     tlv(CHALLENGE, &[0xAA])
 }
 
+pub fn token(token: &[u8]) -> Vec<u8> {
+    tlv(ACCESS_TOKEN, token)
+}
+
+/// Ann's.
 pub fn access_token() -> Vec<u8> {
-    tlv(ACCESS_TOKEN, &[0xAA])
+    token(&ANN)
 }
 
 pub fn username(name: &[u8]) -> Vec<u8> {
@@ -28,6 +33,10 @@ pub fn full() -> Vec<u8> {
 
 pub fn handle(number: u8) -> Vec<u8> {
     tlv(KEYHANDLE, &key(number))
+}
+
+pub fn app_id(app_id: &[u8]) -> Vec<u8> {
+    tlv(APPID, app_id)
 }
 
 pub fn content(content: &[u8]) -> Vec<u8> {

@@ -104,8 +104,8 @@ fn broken_children() -> Vec<Broken> {
         ("a child more", holds(&[&good[4..], &counters_of(4)])),
         ("a child less", holds(&[rest])),
         ("children in another order", holds(&[counters, rest])),
-        ("a mixed token of 31", record(1, &[0; 31], b"Ann", 0)),
-        ("a mixed token of 33", record(1, &[0; 33], b"Ann", 0)),
+        ("a mixed token of 31", stored(1, &[0; 31], b"Ann", 0)),
+        ("a mixed token of 33", stored(1, &[0; 33], b"Ann", 0)),
         ("a counter of 3 bytes", holds(&[rest, &counters_of(3)])),
     ]
 }
@@ -122,7 +122,7 @@ pub fn order(t: &mut Trace) {
         "refusals 3 and 4: 3",
         changed(vec![0x05, 0x34, 0, 0], |call| {
             call.aaid.clear();
-            call.mixed.clear();
+            call.nonce.clear();
         }),
     );
     t.give(&[good[..good.len() - 1].to_vec()]);

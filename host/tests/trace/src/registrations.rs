@@ -35,7 +35,7 @@ fn statuses(t: &mut Trace) {
 
 fn fields(t: &mut Trace) {
     let challenged = |length| register_by(tlv(CHALLENGE, &vec![0; length]), b"Ann", full(), &[]);
-    let app_id = |length| register_with(tlv(APPID, &vec![0; length]));
+    let app_id = |length| register_with(app_id(&vec![0; length]));
     let verified = register_with(tlv(USERVERIFY_TOKEN, b""));
     for (name, number, command) in [
         ("surrogate", 2, register_as(attestation(BASIC_SURROGATE))),
@@ -62,10 +62,11 @@ fn other_fields(t: &mut Trace) {
     let wrong = tlv(INDEX, &[1]);
     t.run("register, index 1", given(wrong, access_token()));
     t.run("register, no access token", given(index(), vec![]));
-    for length in [0, 32, 33] {
-        let token = tlv(ACCESS_TOKEN, &vec![0; length]);
-        let name = format!("register, access token of {length}");
-        t.run(&name, given(index(), token).verdict(1));
+    for length in [0, 1, 31, 32, 33] {
+        let call = given(index(), token(&vec![0; length])).verdict(1);
+        let answer = t.run(&format!("register, access token of {length}"), call);
+        let status = if length == 32 { 0x02 } else { 0x08 };
+        assert_eq!(answer[8], status);
     }
     for length in [1, 3] {
         let command = register_as(tlv(ATTESTATION_TYPE, &vec![0; length]));
@@ -83,6 +84,8 @@ fn limits(t: &mut Trace) {
         let call = of(register()).key(number).by(BO);
         t.run(&name, Call { public_key, ..call });
     }
+    let seven = of(register_named(b"seven")).key(12);
+    t.run("register, seventh own beside one with an AppID", seven);
     let nine = || of(register_named(b"nine"));
     t.run("register, eighth own", of(register_named(b"eight")).key(10));
     t.run("register, ninth own", nine().key(11));
@@ -90,13 +93,13 @@ fn limits(t: &mut Trace) {
 }
 
 fn full_table(t: &mut Trace) {
-    for i in 0..22 {
+    for i in 0..21 {
         let command = register_named(format!("m{i}").as_bytes());
         let call = Call {
-            dump: i == 21,
+            dump: i == 20,
             ..of(command).key(100 + i).by([i / 8; 32])
         };
-        t.run(&format!("register, number {} in all", 11 + i), call);
+        t.run(&format!("register, number {} in all", 12 + i), call);
     }
     let cys = |name| of(register_named(name)).by(CY);
     t.run("register, thirty-third in all", cys(b"Ann").key(200));

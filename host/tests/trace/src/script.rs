@@ -191,6 +191,17 @@ impl Trace {
         command.0
     }
 
+    /// Hashes two stretches.
+    pub fn hash(&mut self, name: &str, first: &[u8], second: &[u8]) {
+        // One that was never set is empty.
+        let mut arguments = vec![('x', first.to_vec()), ('h', second.to_vec())];
+        arguments.retain(|(letter, value)| !value.is_empty() || self.set.contains_key(letter));
+        self.set(arguments);
+        self.script.push(format!("% {name}"));
+        let hash = Output(uaf_peer::hash(first, second).to_vec());
+        self.expect(name, &format!("hash {}", hash.written(32, true)));
+    }
+
     /// Reads the response that lies there. Gives whether it is one.
     pub fn read_this(&mut self, name: &str, response: &[u8]) -> bool {
         self.script.push(format!("< {name}"));
@@ -318,5 +329,26 @@ mod tests {
         t.run("run", of(command));
         assert!(t.script.iter().all(|line| !line.starts_with("c ")));
         assert!(t.expected[2].starts_with("run: response 10 "));
+    }
+
+    /// An argument that was never set is empty; one that was set stays so.
+    #[test]
+    fn what_is_printed_of_a_hash() {
+        let mut t = Trace::default();
+        t.hash("nothing", b"", b"");
+        t.hash("abc", b"ab", b"c");
+        t.hash("c", b"", b"c");
+        assert_eq!(
+            t.expected,
+            [
+                "nothing: hash 32 800526640 1 E3B0C44298FC1C149AFBF4C8996FB92427AE41E4649B934CA495991B7852B855",
+                "abc: hash 32 4091350675 1 BA7816BF8F01CFEA414140DE5DAE2223B00361A396177A9CB410FF61F20015AD",
+                "c: hash 32 4058124166 1 2E7D2C03A9507AE265ECF5B5356885A53393A2029D241394997265A1A25AEFC6",
+            ]
+        );
+        assert_eq!(
+            t.script,
+            ["% nothing", "x 6162", "h 63", "% abc", "x ", "% c"]
+        );
     }
 }

@@ -4,6 +4,7 @@ use crate::bytes::*;
 use crate::call::{of, Call};
 use crate::make::*;
 use crate::script::Trace;
+use uaf_peer::hash;
 
 pub fn signatures(t: &mut Trace) {
     t.say("Sign: a tie, then the choice; repeated handles; content; the last count");
@@ -65,6 +66,7 @@ fn choices(t: &mut Trace) {
 }
 
 fn contents(t: &mut Trace) {
+    hashed(t);
     for display in 1..4 {
         let name = format!("sign, content, display {display}");
         t.run(&name, sign_stakes(2).display(display));
@@ -74,6 +76,18 @@ fn contents(t: &mut Trace) {
     t.run("sign, empty content whatever the display", empty);
     let none = of(sign(&[handle(2)])).display(3);
     t.run("sign, no content whatever the display", none);
+}
+
+/// The hash in the draft is that of the content, of lengths about the ends of blocks and of the
+/// greatest that a Sign with one handle has.
+fn hashed(t: &mut Trace) {
+    for length in [1, 55, 56, 63, 64, 65, 119, 120, 8102] {
+        let bytes: Vec<u8> = (0..length).map(|i| (i % 251) as u8).collect();
+        let call = of(sign(&[content(&bytes), handle(2)]));
+        let draft = t.run(&format!("sign, content of {length}"), call);
+        let field = tlv(CONTENT_HASH, &hash(&bytes, b""));
+        assert!(draft.windows(field.len()).any(|bytes| bytes == field));
+    }
 }
 
 fn last_counts(t: &mut Trace) {
@@ -97,9 +111,15 @@ fn fields(t: &mut Trace) {
     for (name, child) in [
         ("content hash not listed", tlv(CONTENT_HASH, &[0; 32])),
         ("username not listed", username(b"Ann")),
+        ("access token twice", access_token()),
         ("handle of 31", tlv(KEYHANDLE, &[0; 31])),
         ("handle of 33", tlv(KEYHANDLE, &[0; 33])),
     ] {
         t.run(&format!("sign, {name}"), of(sign(&[child])));
+    }
+    for length in [0, 1, 31, 33] {
+        let given = [index(), challenge(), token(&vec![0xA0; length])];
+        let call = of(holding(SIGN, &given)).verdict(1);
+        t.run(&format!("sign, access token of {length}"), call);
     }
 }

@@ -4,6 +4,7 @@ use crate::bytes::*;
 use crate::call::{of, Call, Kind, Marked, Writing};
 use crate::names::{BROKEN, JOSE};
 use crate::script::Trace;
+use uaf_peer::hash;
 
 const NOT_GIVEN: u32 = 0;
 const GIVEN: u32 = 1;
@@ -34,7 +35,7 @@ fn shortest(kind: Kind) -> Writing {
         attestation: BASIC_FULL.into(),
         content: (NOT_GIVEN, vec![]),
         key_id: vec![],
-        access_token: vec![0xAA],
+        access_token: ANN.to_vec(),
         verify_token: (NOT_GIVEN, vec![]),
         handles: vec![],
         handle_sizes: vec![],
@@ -87,9 +88,9 @@ const WITH_FIELDS: [(&str, Kind); 3] = [
 /// With the lengths of the shortest.
 const KINDS: [(&str, Kind, u32); 5] = [
     ("info", Kind::GetInfo, 4),
-    ("register", Kind::Register, 32),
-    ("sign", Kind::Sign, 19),
-    ("deregister", Kind::Deregister, 18),
+    ("register", Kind::Register, 63),
+    ("sign", Kind::Sign, 50),
+    ("deregister", Kind::Deregister, 49),
     ("settings", Kind::OpenSettings, 9),
 ];
 
@@ -103,15 +104,18 @@ fn plain(t: &mut Trace) {
 
 fn every_field(t: &mut Trace) {
     t.say("Writers: every field, in the order of the tables; handles as given");
-    t.give(&[anns(1), record(2, &ANN, b"Bo", 7), anns(3)]);
+    let (token, app_id) = ((0x41..0x61).collect::<Vec<u8>>(), b"https://tote.example");
+    let mixed = hash(&token, app_id);
+    let own = |number, name: &[u8], count| stored(number, &mixed, name, count);
+    t.give(&[own(1, b"Ann", 0), own(2, b"Bo", 7), own(3, b"Ann", 0)]);
     let all = |fields: &mut Writing| {
-        fields.app_id = given(b"https://tote.example");
+        fields.app_id = given(app_id);
         fields.challenge = (1..33).collect();
         fields.username = JOSE.to_vec();
         fields.attestation = BASIC_SURROGATE.into();
         fields.content = given(b"10 on No 4");
         fields.key_id = key(3);
-        fields.access_token = (0x41..0x61).collect();
+        fields.access_token = token.clone();
         fields.verify_token = given(b"seen");
         fields.handles = [key(2), key(9), key(2)].concat();
         fields.handle_sizes = vec![32; 3];
@@ -158,11 +162,12 @@ fn lengths(t: &mut Trace) {
     let app_id = [(1, true), (512, true), (513, false)];
     let short = [(0, false), (32, true), (33, false)];
     let key_id = [(1, false), (31, false), (32, true), (33, false)];
+    let token = [(0, false), (1, false), (31, false), (32, true), (33, false)];
     for (what, kind) in WITH_FIELDS {
         limits(t, &format!("{what}, AppID"), &app_id, |bytes| {
             changed(kind, |fields| fields.app_id = given(&bytes))
         });
-        limits(t, &format!("{what}, access token"), &short, |bytes| {
+        limits(t, &format!("{what}, access token"), &token, |bytes| {
             changed(kind, |fields| fields.access_token = bytes.clone())
         });
     }
@@ -271,13 +276,13 @@ fn wrong_handles(t: &mut Trace) {
     }
 }
 
-/// Beside its longest field a Register has 36 bytes here, a Sign 23, with that field's header.
+/// Beside its longest field a Register has 67 bytes here, a Sign 54, with that field's header.
 fn longest(t: &mut Trace) {
     t.say("Writers: 8,192 bytes and one more");
     t.give(&[anns(1)]);
     let long = |kind, size: usize, mark| Writing {
-        verify_token: (mark, vec![b'v'; size - 36]),
-        content: (mark, vec![b'c'; size - 23]),
+        verify_token: (mark, vec![b'v'; size - 67]),
+        content: (mark, vec![b'c'; size - 54]),
         command_size: 8400,
         ..shortest(kind)
     };

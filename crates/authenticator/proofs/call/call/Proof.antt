@@ -16,7 +16,7 @@ use Rattle.authenticator.proofs.call.call.Statement.{statement}
 use Rattle.authenticator.proofs.call.call.Tie as tie
 
 abbrev start : tie.Else1 → tie.Start
-start c = c .before .before .before .before .before .before .before .before .before .before .before .before .before
+start c = c .before .before .before .before .before .before .before .before .before .before .before
 
 -- past refusal 1 both outputs are long enough
 room : (c : tie.Else1) → (leastOutput ≤ length (now (start c .args .response))) × (maxStored ≤ length (now (start c .args .table-out)))

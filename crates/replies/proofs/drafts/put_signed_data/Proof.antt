@@ -6,22 +6,6 @@ use Rattle.replies.proofs.WriterLaws.{wrote-signed}
 use Rattle.replies.proofs.drafts.put_signed_data.Statement.{statement}
 use Rattle.replies.proofs.drafts.put_signed_data.Tie as tie
 
-put-content-hash-requires : tie.Need-put-content-hash-requires
-put-content-hash-requires c κs =
-    let early = c .before .before .before .before .before .before .before .before .before .before .before .before .before .before in (
-      early .before .before .before .before .before .before .before .before .before .before .before .before .before .before .pre .0 .3,
-      omega (arith, early),
-    )
-
-put-tlv-requires-4 : tie.Need-put-tlv-requires-4
-put-tlv-requires-4 c κs = omega (arith, c .before .before .before .before .before .before .before .before .before .before .before .before)
-
-put-tlv32-requires : tie.Need-put-tlv32-requires
-put-tlv32-requires c κs = omega (arith, c .before .before .before .before .before .before .before .before .before .before .before .before)
-
-same-length : tie.Need-same-length
-same-length c = omega (arith, c .before .before .before .before .before .before .before .before .before .before .before .before)
-
 returns : tie.Need-returns
 returns c =
     let b8 = c .before .before in
@@ -35,9 +19,23 @@ returns c =
     let m = b1 .before .before in
     let s = m .before .before .before .before .before .before .before in
     wrote-signed (s .args .content) _ (s .args .numbers) _ _ _ _ (s .args .count)
-    (⊎-elim (λ w. rw (w .0 .taken) (w .1)) (λ w. rw (w .0 .left) (w .1)) (m .if1 .came)) (s .pre .0 .0) (s .pre .0 .4) (s .pre .1 .0)
+    (⊎-elim (λ w. rw (w .0 .taken) (w .1)) (λ w. rw (w .0 .left) (w .1)) (m .if1 .came)) (s .pre .0 .0) (s .pre .0 .3) (s .pre .1 .0)
     (b1 .put-header .ensures) (b2 .put-tlv .ensures) (b3 .put-signed-info .ensures) (b4 .put-tlv2 .ensures) (b5 .put-tlv3 .ensures)
     (b6 .put-content-hash .ensures) (b7 .put-tlv4 .ensures) (b8 .put-tlv32 .ensures)
+
+put-content-hash-requires : tie.Need-put-content-hash-requires
+put-content-hash-requires c κs =
+    let early = c .before .before .before .before .before .before .before .before .before .before .before .before .before .before in
+    omega (arith, early)
+
+put-tlv-requires-4 : tie.Need-put-tlv-requires-4
+put-tlv-requires-4 c κs = omega (arith, c .before .before .before .before .before .before .before .before .before .before .before .before)
+
+put-tlv32-requires : tie.Need-put-tlv32-requires
+put-tlv32-requires c κs = omega (arith, c .before .before .before .before .before .before .before .before .before .before .before .before)
+
+same-length : tie.Need-same-length
+same-length c = omega (arith, c .before .before .before .before .before .before .before .before .before .before .before .before)
 
 pub put-signed-data-spec : {M : Type 1} → statement M
 put-signed-data-spec =

@@ -7,9 +7,10 @@ use uaf_peer::{command, Answer, Lent, Profile, Refusal};
 
 pub const AAID: &[u8; 9] = b"4E8A#0001";
 pub const METADATA: &[u8; 15] = &[1, 2, 3, 4, 5, 6, 7, 8, 9, 10, 11, 12, 13, 14, 15];
-/// The holder's mixed token, and a stranger's.
+/// The holder's access token is 32 of these bytes, and two strangers' are 32 of those.
 pub const OWN: u8 = 0xA0;
 pub const OTHER: u8 = 0xB0;
+pub const THIRD: u8 = 0xB1;
 
 pub const GETINFO: u16 = 0x3401;
 pub const REGISTER: u16 = 0x3402;
@@ -17,7 +18,7 @@ pub const SIGN: u16 = 0x3403;
 pub const DEREGISTER: u16 = 0x3404;
 pub const OPEN_SETTINGS: u16 = 0x3406;
 
-/// Results that every command accepts: verified, confirmed, the holder's mixed token.
+/// Results that every command accepts: verified, confirmed.
 pub fn lent() -> Lent<'static> {
     Lent {
         profile: Profile {
@@ -29,12 +30,34 @@ pub fn lent() -> Lent<'static> {
         },
         verdict: 0,
         display: 0,
-        mixed: &[OWN; 32],
         key_id: &[0xC0; 32],
         public_key: b"PUB",
         nonce: b"noncenon",
-        hash: &[0x77; 32],
     }
+}
+
+/// The mixed token of a holder who gives no AppID, as Python's `hashlib` tells it. One who gives no
+/// command needs none, and any bytes stand for it.
+pub fn mixed(holder: u8) -> [u8; 32] {
+    match holder {
+        OWN => digest("545e9f3eaf2ba2883101637f4db862733ecedb93ed30a402688873edf3c256f6"),
+        OTHER => digest("a8ce11a1a4bb9bcba783d9ab4791defe480b0fdbfb256ac88fd80abd21992177"),
+        THIRD => digest("3112fa1d1185697e9239f5dc13df9d188d6a18eb4c1c578c88479b44d8a31466"),
+        holder => [holder; 32],
+    }
+}
+
+/// The hash of `pay`, the tests' content, as Python's `hashlib` tells it.
+pub fn hash_of_pay() -> [u8; 32] {
+    digest("9350872d712a127c494d7dc35e46b0bc9e62e288239708e581dfc3a1400154a4")
+}
+
+/// A hash as such programs print it.
+pub fn digest(text: &str) -> [u8; 32] {
+    let pair = |place: usize| u8::from_str_radix(&text[2 * place..2 * place + 2], 16).unwrap();
+    assert_eq!(text.len(), 64);
+    let bytes: Vec<u8> = (0..32).map(pair).collect();
+    bytes.try_into().unwrap()
 }
 
 pub fn tlv(tag: u16, value: &[u8]) -> Vec<u8> {
@@ -63,12 +86,13 @@ pub fn hex(text: &str) -> Vec<u8> {
         .collect()
 }
 
-pub fn record(key_id: u8, mixed: u8, name: &[u8], counter: u32) -> Vec<u8> {
+/// A holder's record.
+pub fn record(key_id: u8, holder: u8, name: &[u8], counter: u32) -> Vec<u8> {
     composite(
         0x3802,
         &[
             tlv(0x2E09, &[key_id; 32]),
-            tlv(0x2805, &[mixed; 32]),
+            tlv(0x2805, &mixed(holder)),
             tlv(0x2806, name),
             tlv(0x2E0D, &counter.to_le_bytes()),
         ],
@@ -88,8 +112,28 @@ pub fn challenge() -> Vec<u8> {
     tlv(0x2E0A, &[0xAA])
 }
 
+/// The holder's access token.
 pub fn access() -> Vec<u8> {
-    tlv(0x2805, &[0xAA])
+    tlv(0x2805, &[OWN; 32])
+}
+
+/// A command of the holder, given by another: with that one's access token, if it has one.
+pub fn by(holder: u8, mut command: Vec<u8>) -> Vec<u8> {
+    let own = access();
+    let place = command.windows(own.len()).position(|part| part == own);
+    if let Some(place) = place {
+        command[place + 4..place + own.len()].fill(holder);
+    }
+    command
+}
+
+/// A command with an AppID besides its other children, if it lists one.
+pub fn at(app_id: &[u8], command: Vec<u8>) -> Vec<u8> {
+    let tag = u16::from_le_bytes([command[0], command[1]]);
+    if ![REGISTER, SIGN, DEREGISTER].contains(&tag) {
+        return command;
+    }
+    composite(tag, &[&command[4..], &tlv(0x2804, app_id)])
 }
 
 /// The mandatory children of a command.
@@ -203,19 +247,19 @@ pub fn krd(lent: &Lent, challenge: &[u8]) -> Vec<u8> {
     composite(0x3E03, &krd_parts(lent, challenge))
 }
 
-/// What the SIGNED_DATA of `lent` holds, with the challenge of the tests.
+/// What the SIGNED_DATA of `lent` holds, with the challenge and the content of the tests.
 pub fn signed_parts(lent: &Lent, key_id: u8, counter: u32, with_content: bool) -> Vec<Vec<u8>> {
     let (mode, hash) = if with_content {
-        (2, lent.hash)
+        (2, hash_of_pay().to_vec())
     } else {
-        (1, &[][..])
+        (1, vec![])
     };
     vec![
         tlv(0x2E0B, lent.profile.aaid),
         tlv(0x2E0E, &[0x11, 0x12, mode, 0x13, 0x14]),
         tlv(0x2E0F, lent.nonce),
         challenge(),
-        tlv(0x2E10, hash),
+        tlv(0x2E10, &hash),
         tlv(0x2E09, &[key_id; 32]),
         tlv(0x2E0D, &counter.to_le_bytes()),
     ]

@@ -1,0 +1,2 @@
+-- Hash values in the words of `model`.
+pub mod Views
