@@ -13,7 +13,7 @@ use borrow.Author.Tests.{ltb-true, ltb-false}
 use Rattle.model.specs.Tlv as tlv
 use Rattle.model.specs.Tlv.{broken}
 use Rattle.model.specs.Records.{Table, maxStored, encode, tableOk}
-use Rattle.model.specs.Commands.{Lent, mixedIn, leastOutput, shortOutput, stored, tableOf, lentOk, Result, refused, gave, Effect, apply, perform, Answer, bytesOf, Outputs, outputs}
+use Rattle.model.specs.Commands.{Lent, leastOutput, shortOutput, stored, tableOf, lentOk, Result, refused, gave, Effect, apply, perform, Answer, bytesOf, Outputs, outputs}
 use Rattle.model.proofs.Basics.{split, either, or-left, or-right}
 use Rattle.model.proofs.LentLaws.{lent-rules}
 use Rattle.tlv.specs.Writing.{Wrote}
@@ -32,7 +32,7 @@ use Rattle.replies.specs.Replies as replies
 use Rattle.replies.specs.Replies.{answerOf, challengeLen, replySize, Ready, Short}
 use Rattle.replies.specs.declared.reply.Shape.{Shape}
 use Rattle.replies.proofs.ReplyLaws.{draft-is, ready, short, size-most}
-use Rattle.commands.specs.Callers.{looks}
+use Rattle.commands.specs.Callers.{mixedFor}
 use Rattle.commands.specs.Decisions.{namedBy, Decides}
 use Rattle.commands.proofs.CallerLaws.{performed-for-caller}
 use Rattle.commands.specs.declared.decision.Decision.{Decision}
@@ -114,15 +114,16 @@ module _ {k : tlv.Kind} {s : List ℕ} {n : Numbers} {m key : List ℕ} {t : Tab
   abbrev answer : Answer
   answer = answerOf k s l t (namedBy chosen d) (d .shape)
 
-  -- a reply and a table that were written as they were decided, for the caller's mixed token or one that is not looked at
-  pub ends-gave : (looks k (broken k s) (n .verdict) ≡ true → m ≡ mixedIn s) → (o : ℕ) (u : Option ℕ) {b : Bool} {len left r : ℕ} {out out′ tab tab′ : List ℕ} → b ≡ replies.isDraft (d .shape)
+  -- a reply and a table that were written as they were decided
+  pub ends-gave : m ≡ mixedFor k s (n .verdict) → (o : ℕ) (u : Option ℕ) {b : Bool} {len left r : ℕ} {out out′ tab tab′ : List ℕ} → b ≡ replies.isDraft (d .shape)
       → Wrote out 0 (bytesOf answer) len out′ r → Wrote tab 0 (encode (apply m (changeOf s key t (d .change)) t)) left tab′ left
       → ended (Gave b len left) out′ tab′ ≡ ends (gave (perform k (call s l o u) t)) (outputsOf out tab)
   unfolding ends outputs
   ends-gave caller o u {b} f w v =
       let g : isDraft answer ≡ b = draft-told k s l t (namedBy chosen d) (d .shape) ∙ sym f in
       rw (
-        ← performed-for-caller m k (call s l o u) t caller,
+        ← performed-for-caller k (call s l o u) t,
+        ← caller,
         ← p .is aaid metadata publicKey nonce,
         front w .1,
         front v .1,

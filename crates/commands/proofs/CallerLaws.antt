@@ -1,7 +1,7 @@
 -- A command that does not look at its caller's records gives the same for whatever mixed token it is performed.
 -- Assumes nothing.
 use mathlib.Core.Path.{_≡_, refl, sym, _∙_}
-use mathlib.Core.Bool.{Bool, true, false, not, _&&_}
+use mathlib.Core.Bool.{Bool, true, false, not, _&&_, and-false}
 use mathlib.Core.List.{List}
 use Prim.Native.Nat.{ℕ}
 use lib.Dec.{eqb}
@@ -11,7 +11,7 @@ use Rattle.model.specs.Commands.{Call, judge, only, apply, mixedIn, registerChe
 use Rattle.model.specs.Traces.{hasToken}
 use Rattle.model.proofs.Basics.{split, clash}
 use Rattle.model.proofs.HashLaws.{performed-for}
-use Rattle.commands.specs.Callers.{looks}
+use Rattle.commands.specs.Callers.{looks, mixedFor}
 
 -- a command that breaks a rule does not
 pub broken-blind : (k : Kind) (verdict : ℕ) → looks k true verdict ≡ false
@@ -35,23 +35,15 @@ unverified m sign c t b h e = rw (b, e)
 unverified m deregister c t b h e = clash refl e
 unverified m openSettings c t b h e = clash h refl
 
-pub performed-blind : (m : List ℕ) (k : Kind) (c : Call) (t : Table) → looks k (broken k (c .command)) (c .lent .verdict) ≡ false
+performed-blind : (m : List ℕ) (k : Kind) (c : Call) (t : Table) → looks k (broken k (c .command)) (c .lent .verdict) ≡ false
     → performFor m k c t ≡ perform k c t
 performed-blind m k c t e =
     split (hasToken k && not (broken k (c .command)))
     (λ h.
-    split (broken k (c .command)) (λ b. clash (rw b at h) (no-token k)) (λ b. unverified m k c t b (rw b at h) (rw b at e)))
+    split (broken k (c .command)) (λ b. clash (rw b at h) (and-false (hasToken k))) (λ b. unverified m k c t b (rw b at h) (rw b at e)))
     (λ h. performed-for m k c h t ∙ sym (unfold perform in performed-for (mixedIn (c .command)) k c h t))
-  where
-    no-token : (k : Kind) → (hasToken k && false) ≡ false
-    no-token getInfo = refl
-    no-token register = refl
-    no-token sign = refl
-    no-token deregister = refl
-    no-token openSettings = refl
 
--- with the right mixed token where it looks at them
-pub performed-for-caller : (m : List ℕ) (k : Kind) (c : Call) (t : Table)
-    → (looks k (broken k (c .command)) (c .lent .verdict) ≡ true → m ≡ mixedIn (c .command)) → performFor m k c t ≡ perform k c t
-performed-for-caller m k c t f =
-    split (looks k (broken k (c .command)) (c .lent .verdict)) (λ e. unfold perform in rw (f e)) (λ e. performed-blind m k c t e)
+-- so it may be performed for zeros
+pub performed-for-caller : (k : Kind) (c : Call) (t : Table) → performFor (mixedFor k (c .command) (c .lent .verdict)) k c t ≡ perform k c t
+performed-for-caller k c t =
+    split (looks k (broken k (c .command)) (c .lent .verdict)) (λ e. unfold perform in rw e) (λ e. performed-blind _ k c t e)

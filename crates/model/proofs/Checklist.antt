@@ -2,7 +2,7 @@
 -- have the same for all inputs. The check takes the modules in the order of their names, what they use first, so that this one comes before every law
 -- about commands: a wrong definition is refused here, at the sentence that it breaks. A trace that one wrong token fails, those further down pass.
 -- Assumes nothing.
-use mathlib.Core.Path.{_≡_, refl, _∙_}
+use mathlib.Core.Path.{_≡_, refl, ap, _∙_}
 use mathlib.Core.Bool.{Bool, true, cond}
 use mathlib.Core.List.{List, [], _∷_, _++_}
 use mathlib.Core.Option.{some, Option·getD}
@@ -76,9 +76,9 @@ known s =
 owner-is : (s : List ℕ) → known s ≡ true → mixedIn s ≡ ownerOf s
 unfolding mixedIn
 owner-is s e =
-    let h = eqBytes-eq _ _ e in
-    split (empty (fieldIn accessToken s)) (λ a. rw (h, a) nobody-is)
-    (λ a. split (empty (fieldIn appId s)) (λ b. rw (h, a, b) holder-is) (λ b. rw (h, a, b) holder-of-a-is))
+    ap sha256 (eqBytes-eq (fieldIn accessToken s ++ fieldIn appId s) _ e)
+    ∙ split (empty (fieldIn accessToken s)) (λ a. rw a nobody-is)
+    (λ a. split (empty (fieldIn appId s)) (λ b. rw (a, b) holder-is) (λ b. rw (a, b) holder-of-a-is))
 
 -- answers and table left by them
 abbrev callsBy : Form → List ℕ → Table → Result Effect

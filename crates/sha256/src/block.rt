@@ -166,7 +166,7 @@ fn four(s: Words, w: &[u32; 64], k: &[u32; 64], t: usize) -> Words
     step_of(s3, k[t + 3], w[t + 3])
 }
 
-// The rest of the schedule and the 64 steps, four of both in a turn: the processor works at both at once.
+// The rest of the schedule and the 64 steps, four of both in a turn: that is quicker than the one after the other.
 fn rounds(start: Words, words: [u32; 64], k: &[u32; 64]) -> Words
     requires { ⌜ now k ≡ model.K ⌝ }
     ensures { λ r. ⌜ view r ≡ model.steps 64 (model.extend 48 (take 16 words)) (view start) ⌝ }

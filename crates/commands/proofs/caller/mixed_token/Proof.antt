@@ -21,7 +21,7 @@ looked : (c : tie.After-looks-up)
 looked c = rw (c .before .before .pre .broken-is) at (c .looks-up .ensures)
 
 returns : tie.Need-returns
-returns c e = clash e (sym (looked (c .before)) ∙ not-true _ (c .if1 .taken))
+returns c = rw (sym (looked (c .before)) ∙ not-true _ (c .if1 .taken))
 
 -- where it looks at them, no rule is broken
 placed : (c : tie.Else1) → let a = c .before .before .before .args in ParamsPlaced (now (a .command)) (a .params)
@@ -32,11 +32,12 @@ placed c =
 
 returns-2 : tie.Need-returns-2
 unfolding mixedIn
-returns-2 c e =
-    let q = placed (c .before .before .before) in
+returns-2 c =
+    let i = c .before .before .before in
+    let q = placed i in
     let token = c .before .before .part-of .ensures ∙ q .access-token .value in
     let app-id = c .before .part-of2 .ensures ∙ q .app-id .value in
-    rw (token, app-id) at (c .hash .ensures)
+    rw (sym (looked (i .before)) ∙ not-false _ (i .if1 .left)) (rw (token, app-id) at (c .hash .ensures))
 
 part-of-requires : tie.Need-part-of-requires
 part-of-requires c κs = placed c .access-token .inside
