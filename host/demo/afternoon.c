@@ -88,16 +88,31 @@ void require_same_table(const struct afternoon *a, const struct table *before)
         fail_because("table", "changed");
 }
 
+void require_table_file(const struct afternoon *a, const struct table *expected)
+{
+    struct table file;
+    terminal_read_table(&a->terminal, &file);
+    if (!same(FILLED(*expected), FILLED(file)))
+        fail_because("table file", "not what it should be");
+}
+
 /* ---- the commands */
+
+static void require_refusal(const char *what, uint32_t refusal, uint32_t expected)
+{
+    char why[128];
+    if (refusal == expected)
+        return;
+    snprintf(why, sizeof why, "refusal %u: %s", (unsigned)refusal, uaf_refusal_name(refusal));
+    fail_because(what, why);
+}
 
 static void run(struct afternoon *a, const struct request *request, size_t status, struct response *response)
 {
     char why[128];
-    uint32_t refusal = terminal_run(&a->terminal, request, response);
-    if (refusal != 0) {
-        snprintf(why, sizeof why, "refusal %u: %s", (unsigned)refusal, uaf_refusal_name(refusal));
-        fail_because("command", why);
-    }
+    require_refusal("command", terminal_run(&a->terminal, request, response), 0);
+    if (response->size == 0)
+        fail_because("command", "the chip did not sign");
     if (response->status != status) {
         snprintf(why, sizeof why, "%s, and not %s", uaf_status_name(response->status), uaf_status_name(status));
         fail_because("command", why);
@@ -163,6 +178,32 @@ void enrol(
     if (!record_find(&a->terminal.table, field_of(response, UAF_TAG_KEYID), &record))
         fail_because(username, "registered without a record");
     server_check_holder(caller_of(&a->firms[firm]), record.mixed);
+}
+
+struct hash enrol_unsigned(struct afternoon *a, size_t firm, const char *username, uint32_t attestation)
+{
+    struct challenge challenge = new_challenge(a, &a->firms[firm]);
+    struct request request;
+    struct response response;
+    struct table file;
+    struct record record;
+    start_register(&request, &a->firms[firm], &challenge, username, attestation);
+    a->terminal.chip_fails = true;
+    require_refusal("command", terminal_run(&a->terminal, &request, &response), 0);
+    a->terminal.chip_fails = false;
+    const struct hash key_id = a->terminal.unsigned_id;
+    terminal_read_table(&a->terminal, &file);
+    if (response.size != 0 || !record_find(&file, WHOLE(key_id.bytes), &record) || !same(record.username, text(username))
+        || !terminal_has_key(&a->terminal, WHOLE(key_id.bytes)))
+        fail_because(username, "not a registration whose draft is unsigned");
+    return key_id;
+}
+
+void withdraw(struct afternoon *a, size_t firm, struct bytes key_id, uint32_t refusal)
+{
+    require_refusal("withdrawal", terminal_withdraw(&a->terminal, caller_of(&a->firms[firm]), key_id), refusal);
+    if (refusal == 0 && terminal_has_key(&a->terminal, key_id))
+        fail_because("withdrawal", "the key is still there");
 }
 
 /* The name in a Register, and the run of children that it stands in. */

@@ -47,11 +47,21 @@ struct hash key_id_of(const struct afternoon *a, size_t firm, const char *userna
 void show_table(const struct afternoon *a);
 void require_same_table(const struct afternoon *a, const struct table *before);
 
+/* The table file holds these bytes. */
+void require_table_file(const struct afternoon *a, const struct table *expected);
+
 void get_info(struct afternoon *a, struct response *response);
 
 void enrol(
     struct afternoon *a, size_t firm, const char *username, uint32_t attestation, size_t status,
     struct response *response);
+
+/* A Register while the signing chip fails: no response leaves, no server hears of it, and its record and key are on disk. Gives the
+ * KeyID. */
+struct hash enrol_unsigned(struct afternoon *a, size_t firm, const char *username, uint32_t attestation);
+
+/* Takes back the registration with this KeyID, which must be done, and leave no key, or be refused with this number. */
+void withdraw(struct afternoon *a, size_t firm, struct bytes key_id, uint32_t refusal);
 
 /* A Register of Zoe whose name loses its last byte after the command was written, for no writer writes such a name. */
 void enrol_cut(struct afternoon *a, size_t firm, struct response *response);

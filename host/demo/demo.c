@@ -16,7 +16,7 @@ static void say_what_this_is(void)
 {
     show("An afternoon of two betting firms on one token\n\n");
     show("  > to the token   < from the token   = checked by the firm's server or by this program\n");
-    show("  stored, counted, removed KEYID: so it is on disk; removing KEYID: about to go\n");
+    show("  stored, counted, removed, withdrawn KEYID: so it is on disk; removing, withdrawing KEYID: about to go\n");
 }
 
 /* A firm of a former afternoon is sent home by the command that is meant for it. */
@@ -302,16 +302,93 @@ static void deregister_seller(struct afternoon *a, size_t firm, const char *user
     show_response(&response);
 }
 
+/* A Register that makes its draft and gets no signature. Gives the KeyID. */
+static struct hash register_in_vain(struct afternoon *a, size_t firm, const char *username, uint32_t attestation)
+{
+    bool full = attestation == UAF_BASIC_FULL;
+    show("  > %s: Register %s, %s attestation\n", a->firms[firm].name, username, full ? "full" : "surrogate");
+    struct hash key_id = enrol_unsigned(a, firm, username, attestation);
+    show("  < a draft to sign, and the chip gives no signature: no response leaves\n");
+    show("  = the record is in the table file, and its key beside it, but no server knows of it\n");
+    return key_id;
+}
+
+static void take_back(struct afternoon *a, size_t firm, const char *username, const struct hash *key_id)
+{
+    show("  > %s's mixed token and %s's KeyID: take back\n", a->firms[firm].name, username);
+    withdraw(a, firm, WHOLE(key_id->bytes), 0);
+}
+
+static void failed_chip(struct afternoon *a)
+{
+    const struct table before = a->terminal.table;
+    show("\n13. The signing chip fails after a Register: the key that no server knows is taken back\n");
+    require_table_file(a, &before);
+    const struct hash eve = register_in_vain(a, HOLLIN, "Eve", UAF_BASIC_SURROGATE);
+    take_back(a, HOLLIN, "Eve", &eve);
+    require_table_file(a, &before);
+    show("  = the table file is byte for byte what it was before the Register, and the key is gone\n");
+    register_seller(a, HOLLIN, "Eve", UAF_BASIC_SURROGATE);
+}
+
+/* Two others between the Register and its withdrawal: one whose record comes to stand behind that which goes, and one whose count rises. */
+static void others_meanwhile(struct afternoon *a)
+{
+    const struct hash bo = key_id_of(a, NORTHGATE, "Bo");
+    register_seller(a, FIRST_OTHER, "Gus", UAF_BASIC_SURROGATE);
+    show("  > Northgate: Sign with Bo's key handle\n");
+    sign_as(a, (struct signing){NORTHGATE, WHOLE(bo.bytes), NULL, UAF_SHOWN_CONFIRMED}, "Bo");
+}
+
+static void failed_chip_again(struct afternoon *a)
+{
+    struct response response;
+    show("\n14. It fails once more, and others are served before the key is taken back: what is theirs stays\n");
+    const struct hash fay = register_in_vain(a, HOLLIN, "Fay", UAF_BASIC_FULL);
+    others_meanwhile(a);
+    const struct table expected = records_without(&a->terminal.table, WHOLE(fay.bytes));
+    take_back(a, HOLLIN, "Fay", &fay);
+    require_table_file(a, &expected);
+    show("  = Fay's record is gone, and the others, with Gus's and Bo's new count, are byte for byte as they were\n");
+    register_seller(a, HOLLIN, "Fay", UAF_BASIC_FULL);
+    show("  > Ashby: Deregister with an empty KeyID\n");
+    leave(a, FIRST_OTHER, nothing(), UAF_STATUS_OK, &response);
+    show_response(&response);
+}
+
+static void refuse_to_take_back(struct afternoon *a, size_t firm, const char *username, const struct hash *key_id, const char *why)
+{
+    const struct table before = a->terminal.table;
+    show("  > %s's mixed token and %s's KeyID: take back\n", a->firms[firm].name, username);
+    withdraw(a, firm, WHOLE(key_id->bytes), UAF_REFUSED_WITHDRAWAL);
+    require_table_file(a, &before);
+    if (!terminal_has_key(&a->terminal, WHOLE(key_id->bytes)))
+        fail_because(username, "refused, and the key is gone");
+    show("  < refusal %u: %s\n", UAF_REFUSED_WITHDRAWAL, why);
+}
+
+/* A key that has signed is known to its server. */
+static void not_taken_back(struct afternoon *a)
+{
+    const struct hash dee = key_id_of(a, HOLLIN, "Dee"), fay = key_id_of(a, HOLLIN, "Fay");
+    show("\n15. What the token does not take back: table file and key stay as they are\n");
+    refuse_to_take_back(a, NORTHGATE, "Fay", &fay, "Fay is Hollin's");
+    refuse_to_take_back(a, HOLLIN, "Dee", &dee, "Dee has not signed, but Eve and Fay of Hollin are newer");
+    show("  > Hollin: Sign with Fay's key handle\n");
+    sign_as(a, (struct signing){HOLLIN, WHOLE(fay.bytes), NULL, UAF_SHOWN_CONFIRMED}, "Fay");
+    refuse_to_take_back(a, HOLLIN, "Fay", &fay, "Fay's key has signed");
+}
+
 static void go_home(struct afternoon *a)
 {
     struct response response;
-    show("\n13. Bo and %s go home: one record each is removed, and Northgate's next sign-in is no tie\n", ZOE);
+    show("\n16. Bo and %s go home: one record each is removed, and Northgate's next sign-in is no tie\n", ZOE);
     deregister_seller(a, NORTHGATE, "Bo");
     deregister_seller(a, NORTHGATE, ZOE);
     show("  > Northgate: Sign, no key handle\n");
     sign_as(a, (struct signing){NORTHGATE, nothing(), NULL, UAF_SHOWN_CONFIRMED}, "Ann");
 
-    show("\n14. Hollin goes home: an empty KeyID removes all that is Hollin's, and nothing else\n");
+    show("\n17. Hollin goes home: an empty KeyID removes all that is Hollin's, and nothing else\n");
     show("  > Hollin: Deregister with an empty KeyID\n");
     leave(a, HOLLIN, nothing(), UAF_STATUS_OK, &response);
     show_response(&response);
@@ -355,6 +432,9 @@ int main(int argc, char **argv)
     last_count(&afternoon);
     refusals(&afternoon);
     whose_command(&afternoon);
+    failed_chip(&afternoon);
+    failed_chip_again(&afternoon);
+    not_taken_back(&afternoon);
     go_home(&afternoon);
     afternoon_close(&afternoon);
     show_flush();

@@ -128,6 +128,16 @@ static void refuse_writing(struct caller caller)
     show_refusal("a GetInfo to write, 4 bytes, into an output of 3", tight, UAF_REFUSED_OUTPUT, &command, sizeof command);
 }
 
+/* A registration to take back. */
+static void refuse_withdrawal(
+    const char *asked, struct bytes mixed, struct bytes key_id, const struct table *table, uint32_t expected)
+{
+    struct table left;
+    memset(&left, MARK, sizeof left);
+    uint32_t refusal = token_withdraw(mixed, key_id, table, &left);
+    show_refusal(asked, refusal, expected, &left, sizeof left);
+}
+
 /* Takes the last byte off a record's name. */
 static void cut_name(struct table *table, struct bytes key_id)
 {
@@ -155,9 +165,10 @@ void refusals(const struct afternoon *a)
     struct table damaged = *table;
     damaged.size -= 1;
     struct table cut = *table;
-    const struct hash zoe = key_id_of(a, NORTHGATE, ZOE);
+    const struct hash zoe = key_id_of(a, NORTHGATE, ZOE), nobody = sha256(text("nobody"));
+    const struct bytes mixed = WHOLE(a->firms[NORTHGATE].mixed.bytes), short_mixed = {mixed.at, mixed.size - 1};
     cut_name(&cut, WHOLE(zoe.bytes));
-    show("\n11. Whatever reaches the port: a number from 1 to 6, and no lent byte is changed\n");
+    show("\n11. Whatever reaches the port: a number from 1 to 7, and no lent byte is changed\n");
     refuse_completion("an output of 4,095 bytes", 1, UAF_REFUSED_OUTPUT);
     refuse_command("a stored table that lost its last byte", FILLED(info), UAF_VERIFIED, WHOLE(nonce), &damaged, UAF_REFUSED_TABLE);
     refuse_command("a stored table with a name cut inside a letter", FILLED(info), UAF_VERIFIED, WHOLE(nonce), &cut, UAF_REFUSED_TABLE);
@@ -166,6 +177,8 @@ void refusals(const struct afternoon *a)
     refuse_command("a Sign with a verdict of 256, whose low byte is 0", FILLED(sign), 256, WHOLE(nonce), table, UAF_REFUSED_LENT);
     refuse_completion("a draft to complete that is none", 0, UAF_REFUSED_BYTES);
     refuse_writing(northgate);
+    refuse_withdrawal("a mixed token of 31 bytes to take back by", short_mixed, WHOLE(zoe.bytes), table, UAF_REFUSED_LENT);
+    refuse_withdrawal("a KeyID to take back that no record has", mixed, WHOLE(nobody.bytes), table, UAF_REFUSED_WITHDRAWAL);
 }
 
 /* ---- whose command it is */

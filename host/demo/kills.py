@@ -15,7 +15,11 @@ every call    Ends the demonstration by SIGKILL at each call that changes a file
 random        RUNS runs (300) on one state folder, each killed at a random moment of the time that a run takes.
 
 What must hold after each: the token accepts the table, and each record has its key; the table is what the demonstration last
-said it is, or that and the one change it was about to make, whole. No response that left has a count above the table's."""
+said it is, or that and the one change it was about to make, whole. No response that left has a count above the table's, and
+none tells of a key that is taken back.
+
+A withdrawal is such a change, of one record that has not signed: a kill or a power cut in it leaves the table with the record
+or the one without it. How many fell into one is counted, from "withdrawing" to "withdrawn"; in the first two parts some must."""
 
 import collections
 import concurrent.futures
@@ -35,7 +39,8 @@ OUT = pathlib.Path(__file__).resolve().parents[2] / "target" / "demo"
 WORKERS = min(4, os.cpu_count() or 1)
 DEMO, TABLE_CHECK, KILL_AT = OUT / "demo", OUT / "table_check", OUT / "kill_at.so"
 COMPOSITE, AUTHENTICATOR_ASSERTION, KEYID, COUNTERS = 0x1000, 0x280F, 0x2E09, 0x2E0D
-EVENT = re.compile(r"^    (stored|counted|removing|removed) ([0-9a-f]{64})(?: ([0-9]+))?$")
+EVENT = re.compile(r"^    (stored|counted|removing|removed|withdrawing|withdrawn) ([0-9a-f]{64})(?: ([0-9]+))?$")
+BEFORE = {"removed": "removing", "withdrawn": "withdrawing"}  # what is said of a record that goes, by what is said when it is gone
 
 
 class Violation(Exception):
@@ -84,20 +89,26 @@ class Ledger:
     """The records that must be on disk with their counts, oldest first, by what was said so far."""
 
     def __init__(self, records=()):
-        self.records, self.gone, self.going = dict(records), set(), set()
+        self.records, self.gone, self.going, self.taken_back = dict(records), set(), {}, set()
 
     def hear(self, said):
         for word, key, count in events(said):
-            if word == "removing":
-                self.going.add(key)
-            elif word == "removed":
-                if key not in self.going:
-                    raise Violation("removed without a word before")
-                del self.records[key]
-                self.going.remove(key)
+            if word == "withdrawing":
+                if self.going or self.records.get(key) != 0:
+                    raise Violation("more is taken back than one record that has not signed")
+                self.taken_back.add(key)
+            if word in BEFORE.values():
+                self.going[key] = word
+            elif word in BEFORE:
+                if self.going.get(key) != BEFORE[word]:
+                    raise Violation(f"{word} without a word before")
+                del self.records[key], self.going[key]
                 self.gone.add(key)
             else:
                 self.records[key] = count
+
+    def in_withdrawal(self):
+        return "withdrawing" in self.going.values()
 
     def check(self, table):
         """The table is the one last spoken of, or one change further; counts go up by one, and nothing changes places."""
@@ -106,7 +117,7 @@ class Ledger:
         raised = [key for key in table if key in self.records and table[key] != self.records[key]]
         if self.gone & set(table):
             raise Violation("a removed record is in the table")
-        if missing and set(missing) != self.going:
+        if missing and set(missing) != set(self.going):
             raise Violation("a stored record is missing")
         if any(table[key] != self.records[key] + 1 for key in raised) or any(table[key] != 0 for key in new):
             raise Violation("a wrong count")
@@ -118,7 +129,7 @@ class Ledger:
     def settle(self, table):
         """What is on disk after a crash is what the next start finds."""
         self.gone |= set(self.records) - set(table)
-        self.records, self.going = dict(table), set()
+        self.records, self.going = dict(table), {}
 
 
 def table_of(state):
@@ -144,19 +155,21 @@ def tlvs(data):
         at += 4 + size
 
 
-def check_responses(state, table):
-    """A count is on disk before a signature over it leaves."""
-    for path in state.glob("responses/sign-*.bin"):
+def check_responses(state, table, taken_back):
+    """A count is on disk before a signature over it leaves; a key that is taken back is in no response."""
+    for path in [*state.glob("responses/register-*.bin"), *state.glob("responses/sign-*.bin")]:
         fields = dict(tlvs(path.read_bytes()))
         key, count = fields.get(KEYID, b"").hex(), int.from_bytes(fields.get(COUNTERS, b""), "little")
         if key in table and count > table[key]:
             raise Violation("a response left with a count above the table's")
+        if key in taken_back:
+            raise Violation("a response tells of a key that is taken back")
 
 
 def check_disk(state, ledger):
     table = table_of(state)
     ledger.check(table)
-    check_responses(state, table)
+    check_responses(state, table, ledger.taken_back)
     return table
 
 
@@ -191,6 +204,11 @@ def check_recovery(state, ledger):
         raise Violation("the next start left scraps")
 
 
+def tally(number, in_withdrawal):
+    """So many of something, and how many of them fell into a withdrawal."""
+    return collections.Counter(all=number, withdrawal=number * in_withdrawal)
+
+
 # ---- every call
 
 
@@ -204,12 +222,14 @@ def kill_once(folder, base, at, how):
         raise Violation(f"call {at}, {how}: not killed, status {status}")
     try:
         ledger.hear(said)
+        kill = tally(1, ledger.in_withdrawal())
         ledger.settle(check_disk(state, ledger))
         check_recovery(state, ledger)
     except Violation as problem:
         raise Violation(f"call {at}, {how}: {problem}")
     shutil.rmtree(state)
     (folder / f"{at}-{how}.out").unlink()
+    return kill
 
 
 Call = collections.namedtuple("Call", "printed name paths")
@@ -255,17 +275,17 @@ def until_registration(calls):
 
 
 def every_call(folder, base, calls, progress):
-    points = list(kill_points(calls))
+    kills = collections.Counter()
     with concurrent.futures.ThreadPoolExecutor(WORKERS) as pool:
-        waiting = [pool.submit(kill_once, folder, base, at, how) for at, how in points]
+        waiting = [pool.submit(kill_once, folder, base, at, how) for at, how in kill_points(calls)]
         try:
             for one in waiting:
-                one.result()
+                kills += one.result()
                 progress.step()
         except Violation:
             pool.shutdown(cancel_futures=True)
             raise
-    return len(points)
+    return kills
 
 
 # ---- power cuts
@@ -379,7 +399,7 @@ class ImageCheck:
 def power_cuts(folder, base, run_of, chance, progress):
     """At each call: what the disk may be, against what had been said just after it and just before the next one. One of these
     images at every third call, by chance, is started on."""
-    disk, check, images = Disk(base, run_of.state), ImageCheck(folder / "image", run_of.state), 0
+    disk, check, images = Disk(base, run_of.state), ImageCheck(folder / "image", run_of.state), collections.Counter()
     known = table_of(base)
     for i, call in enumerate(run_of.calls):
         disk.take(call)
@@ -387,7 +407,7 @@ def power_cuts(folder, base, run_of, chance, progress):
             ledger = Ledger(known)
             ledger.hear(run_of.said[:printed])
             may_be = list(disk.images())
-            images += len(may_be)
+            images += tally(len(may_be), ledger.in_withdrawal())
             try:
                 for image in may_be:
                     check.check(image, ledger)
@@ -426,18 +446,19 @@ def running_time(state):
 
 def random_moments(folder, runs, whole, chance, progress):
     """whole: how long a run takes in this folder."""
-    state, out, ledger, killed = folder / "state", folder / "out", Ledger(), 0
+    state, out, ledger, kills = folder / "state", folder / "out", Ledger(), collections.Counter()
     for i in range(runs):
         delay = chance.uniform(0, 1.1 * whole)
         try:
-            killed += run_killed(state, out, delay)
+            killed = run_killed(state, out, delay)
             ledger.hear(said_in(out))
+            kills += tally(killed, ledger.in_withdrawal())
             ledger.settle(check_disk(state, ledger))
         except Violation as problem:
             raise Violation(f"run {i + 1}, killed after {1000 * delay:.1f} ms: {problem}")
         progress.step()
     check_recovery(state, ledger)
-    return killed
+    return kills
 
 
 # ---- all of it
@@ -445,6 +466,11 @@ def random_moments(folder, runs, whole, chance, progress):
 
 def minutes(seconds):
     return f"{seconds / 60:.0f} min" if seconds >= 90 else f"{seconds:.0f} s"
+
+
+def require_withdrawals(part, tallied):
+    if not tallied["withdrawal"]:
+        raise Violation(f"{part}: none fell into a withdrawal")
 
 
 def main():
@@ -469,19 +495,31 @@ def main():
 
         with Progress("power cuts: calls", calls) as progress:
             images = power_cuts(folder, none, first, chance, progress) + power_cuts(folder, crashed, second, chance, progress)
-        print(f"power cuts: at {calls} calls, {images} images of the disk", flush=True)
+        require_withdrawals("power cuts", images)
+        print(f"power cuts: at {calls} calls, {images['all']} images of the disk, {images['withdrawal']} in a withdrawal", flush=True)
         with Progress("every call: kills", points) as progress:
             kills = every_call(folder, none, first.calls, progress) + every_call(folder, crashed, closing, progress)
-        print(f"every call: {len(first.calls)} on a new folder, {len(closing)} on a crashed one; {kills} kills", flush=True)
+        require_withdrawals("every call", kills)
+        print(
+            f"every call: {len(first.calls)} on a new folder, {len(closing)} on a crashed one; {kills['all']} kills, "
+            f"{kills['withdrawal']} in a withdrawal", flush=True
+        )
         with Progress("random: runs", runs) as progress:
             killed = random_moments(disk, runs, whole, chance, progress)
-        print(f"random: {runs} runs of {1000 * whole:.0f} ms each, {killed} killed before the end; seed {seed}")
+        print(
+            f"random: {runs} runs of {1000 * whole:.0f} ms each, {killed['all']} killed before the end, "
+            f"{killed['withdrawal']} in a withdrawal; seed {seed}"
+        )
     except Violation as problem:
         print(f"kills: FAILED: {problem}. The state folders are in {folder} and {disk}")
         return 1
     shutil.rmtree(folder)
     shutil.rmtree(disk)
-    print(f"kills: {kills + killed} kills and {images} power cuts, no violation")
+    kills += killed
+    print(
+        f"kills: {kills['all']} kills and {images['all']} power cuts, {kills['withdrawal']} and {images['withdrawal']} of them in a "
+        "withdrawal, no violation"
+    )
     return 0
 
 

@@ -21,3 +21,17 @@ bool record_find(const struct table *table, struct bytes key_id, struct record *
             return true;
     return false;
 }
+
+struct table records_without(const struct table *table, struct bytes key_id)
+{
+    struct table left = {.size = 0};
+    struct bytes rest = FILLED(*table), from = rest;
+    for (struct record record; record_next(&rest, &record); from = rest) {
+        const struct bytes whole = {from.at, from.size - rest.size};
+        if (same(record.key_id, key_id))
+            continue;
+        copy(left.bytes + left.size, whole);
+        left.size += whole.size;
+    }
+    return left;
+}

@@ -17,4 +17,7 @@ bool record_next(struct bytes *rest, struct record *record);
 
 bool record_find(const struct table *table, struct bytes key_id, struct record *record);
 
+/* The table without the record of this KeyID; the others' bytes are as they were, in their order. */
+struct table records_without(const struct table *table, struct bytes key_id);
+
 #endif

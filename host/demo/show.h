@@ -13,8 +13,8 @@ void show(const char *format, ...);
 /* Hands on what was printed so far. */
 void show_flush(void);
 
-/* "stored KEYID", "removing KEYID", "removed KEYID" and "counted KEYID N", in hexadecimal, each on its own line and handed
- * on at once: the crash test reads them. */
+/* "stored KEYID", "removing KEYID", "removed KEYID", "withdrawing KEYID", "withdrawn KEYID" and "counted KEYID N", in
+ * hexadecimal, each on its own line and handed on at once: the crash test reads them. */
 void show_event(const char *what, struct bytes key_id);
 void show_count(struct bytes key_id, uint32_t count);
 

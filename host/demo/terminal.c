@@ -84,17 +84,29 @@ static void open_attestation(struct terminal *terminal)
     store_replace(store, certificate_file, FILLED(*certificate));
 }
 
-void terminal_open(struct terminal *terminal, const char *path, size_t *swept)
+void terminal_read_table(const struct terminal *terminal, struct table *table)
 {
-    struct table *table = &terminal->table;
-    store_open(&terminal->store, path);
     if (!store_read(&terminal->store, table_file, table->bytes, sizeof table->bytes, &table->size))
         table->size = 0;
-    check_table(table);
+}
+
+bool terminal_has_key(const struct terminal *terminal, struct bytes key_id)
+{
+    EVP_PKEY *key = stored_key(&terminal->store, key_file(key_id).letters);
+    bool is_there = key != NULL;
+    EVP_PKEY_free(key);
+    return is_there;
+}
+
+void terminal_open(struct terminal *terminal, const char *path, size_t *swept)
+{
+    store_open(&terminal->store, path);
+    terminal_read_table(terminal, &terminal->table);
+    check_table(&terminal->table);
     check_keys(terminal);
-    *swept = store_sweep(&terminal->store, table);
+    *swept = store_sweep(&terminal->store, &terminal->table);
     open_attestation(terminal);
-    terminal->quiet = false;
+    terminal->quiet = terminal->chip_fails = false;
 }
 
 void terminal_close(struct terminal *terminal)
@@ -142,20 +154,27 @@ static void remove_keys(const struct terminal *terminal, const struct table *lef
         store_flush(&terminal->store);
 }
 
+/* What is said of records that go: before it begins, and when it is done. */
+struct words {
+    const char *going, *gone;
+};
+static const struct words removal = {"removing", "removed"}, withdrawal = {"withdrawing", "withdrawn"};
+
 /* Puts the table left on disk. The order makes a crash harmless: a new key is there before the table that has its record,
  * and a removed record's key goes after the table without it, so that every record on disk has its key. What is said here
- * is true of the disk: "stored" and "removed" when it is done, "removing" before it begins. */
-static void keep(struct terminal *terminal, const struct table *left, EVP_PKEY *fresh, struct bytes fresh_id)
+ * is true of the disk: "stored", "removed" and "withdrawn" when it is done, "removing" and "withdrawing" before it begins. */
+static void keep(
+    struct terminal *terminal, const struct table *left, EVP_PKEY *fresh, struct bytes fresh_id, const struct words *words)
 {
     if (same(FILLED(terminal->table), FILLED(*left)))
         return;
-    say_removals(terminal, left, "removing");
+    say_removals(terminal, left, words->going);
     if (fresh != NULL)
         store_key(&terminal->store, key_file(fresh_id).letters, fresh);
     store_replace(&terminal->store, table_file, FILLED(*left));
     say_additions(terminal, left);
     remove_keys(terminal, left);
-    say_removals(terminal, left, "removed");
+    say_removals(terminal, left, words->gone);
     terminal->table = *left;
 }
 
@@ -210,6 +229,15 @@ static void finish(
         fail_because("response", "the token does not read what it wrote");
 }
 
+/* A draft that the chip does not sign is thrown away here, and no other copy of it is kept: should the chip come round, there
+ * is nothing left for it to sign. */
+static void leave_unsigned(struct terminal *terminal, EVP_PKEY *fresh, const struct hash *fresh_id, struct response *response)
+{
+    response->size = response->signed_length = 0;
+    if (fresh != NULL)
+        terminal->unsigned_id = *fresh_id;
+}
+
 uint32_t terminal_run(struct terminal *terminal, const struct request *request, struct response *response)
 {
     uint8_t nonce[16];
@@ -231,9 +259,33 @@ uint32_t terminal_run(struct terminal *terminal, const struct request *request, 
     };
     uint32_t refusal = token_command(FILLED(request->command), &lent, &terminal->table, &answer);
     if (refusal == 0) {
-        keep(terminal, &answer.left, fresh, WHOLE(key_id.bytes));
-        finish(terminal, request, fresh, &answer, response);
+        keep(terminal, &answer.left, fresh, WHOLE(key_id.bytes), &removal);
+        if (answer.kind == UAF_DRAFT && terminal->chip_fails)
+            leave_unsigned(terminal, fresh, &key_id, response);
+        else
+            finish(terminal, request, fresh, &answer, response);
     }
     EVP_PKEY_free(fresh);
+    return refusal;
+}
+
+/* The record of a Register is on disk before the chip is asked, so that no server ever knows a key that a power cut took from
+ * the token; where the chip then fails, the record has to go again. It goes as in every other change: the table without it,
+ * then its key. What a power cut leaves:
+ *
+ *     before the table that has the record     its key alone, which the next start sweeps
+ *     from then on                             the record and its key, as where a response is lost on its way
+ *     from the table without the record on     its key alone, which the next start sweeps
+ *
+ * So there is never a record without its key, as there would be if the key went first. The next start does not take back the
+ * record of the second line: it cannot tell it from one whose response has left, and a key that a server knows must stay. It
+ * goes with its firm's Deregister. The draft is thrown away before this begins, so no server hears of the key afterwards. */
+uint32_t terminal_withdraw(struct terminal *terminal, struct caller caller, struct bytes key_id)
+{
+    struct hash mixed = token_hash(caller.access_token, caller.app_id);
+    struct table left;
+    uint32_t refusal = token_withdraw(WHOLE(mixed.bytes), key_id, &terminal->table, &left);
+    if (refusal == 0)
+        keep(terminal, &left, NULL, nothing(), &withdrawal);
     return refusal;
 }

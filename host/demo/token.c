@@ -44,6 +44,12 @@ uint32_t token_complete(
         response->bytes, sizeof response->bytes, &response->size);
 }
 
+uint32_t token_withdraw(struct bytes mixed, struct bytes key_id, const struct table *table, struct table *left)
+{
+    return uaf_withdraw(
+        mixed.at, mixed.size, key_id.at, key_id.size, table->bytes, table->size, left->bytes, sizeof left->bytes, &left->size);
+}
+
 struct hash token_hash(struct bytes first, struct bytes second)
 {
     struct hash hash;

@@ -49,6 +49,9 @@ uint32_t token_complete(
     uint32_t kind, struct bytes draft, uint32_t attestation, struct bytes signature, struct bytes certificate,
     struct response *response);
 
+/* Takes back the registration with this mixed token and KeyID; *left is the table without it. */
+uint32_t token_withdraw(struct bytes mixed, struct bytes key_id, const struct table *table, struct table *left);
+
 /* The token's own SHA-256 of one stretch followed by another. */
 struct hash token_hash(struct bytes first, struct bytes second);
 

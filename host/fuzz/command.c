@@ -1,6 +1,8 @@
-/* Fuzzes uaf_command: one to four calls, the first on a table that the input has, each later one on the table that the last one left.
+/* Fuzzes uaf_command and uaf_withdraw: one to four calls, the first on a table that the input has, each later one on the table that the last one
+ * left.
  *
- *     8   flags: 1 buffers stand after the front guard page, 2 the table is given by records
+ *     8   flags: 1 buffers stand after the front guard page, 2 the table is given by records; 4, 8, 16, 32 the first, second, third, fourth call is a
+ *         withdrawal
  *     16  size of the table's part, then the part: the stored form or, by records, 8 bytes for each: number of the KeyID, number of the
  *         holder, size of the name, its letter as put_name has it, the counter (32)
  *     then each call:
@@ -16,7 +18,14 @@
  *     8   0, or up to which size a skipped child fills the command: 8,188 and 1 to 16 more, or else so many times 256
  *     16  size of the command, then the command
  *
- * A command meets the records of the holder whose access token and AppID it has. */
+ * A command meets the records of the holder whose access token and AppID it has.
+ *
+ * A withdrawal has the same layout, so that one flag makes a withdrawal of a command. It is lent the KeyID in its size, the table output and a
+ * mixed token: the holder's, as put_mixed has it, in the access token's size or, where the outer length is not put right, the command as it
+ * stands. With flag 64 it is not the holder's but a record's of the table, and with flag 128 the KeyID is a record's too: the numbers of holder and
+ * KeyID say which, by their remainders. The verdict and the display's result, where not 0, say which bit of mixed token and KeyID is changed.
+ *
+ * Every Register that makes a draft is taken back as well, on the side, which must give the table that it was given. */
 #include <string.h>
 
 #include "harness.h"
@@ -31,15 +40,15 @@ enum {
     MOST_RECORD = 4 + 36 + 36 + 4 + UINT8_MAX + 8,
 };
 
-/* The input's second flag, and a call's. */
-enum { BY_RECORDS = 2 };
+/* The input's flags from the second on, and a call's. */
+enum { BY_RECORDS = 2, FIRST_IS_WITHDRAWAL = 4 };
 enum {
     MEND_OUTER = 1, CHANGE_VERDICT = 2, CHANGE_DISPLAY = 4, CHANGE_VERSION = 8, CHANGE_SIGNATURE = 16, CHANGE_KEY = 32,
     PUT_TOKEN = 64, PUT_APP_ID = 128,
 };
 
 static struct {
-    struct input command, aaid, metadata, key_id, public_key, nonce, table;
+    struct input command, aaid, metadata, key_id, public_key, nonce, table, mixed;
     struct output response, table_out, answer, response_length, table_length;
 } lent;
 
@@ -55,6 +64,7 @@ static void open_all(void)
     lent.public_key = open_input(MOST_SIZE);
     lent.nonce = open_input(MOST_SIZE);
     lent.table = open_input(MOST_TABLE);
+    lent.mixed = open_input(MOST_COMMAND);
     lent.response = open_output(UAF_LEAST_RESPONSE + INT8_MAX);
     lent.table_out = open_output(UAF_LEAST_TABLE + INT8_MAX);
     lent.answer = open_output(sizeof(uint32_t));
@@ -172,7 +182,7 @@ static size_t take_table(struct source *source, bool by_records)
 
 /* What a call is, beside its command and what stands in the stretches. */
 struct caller {
-    unsigned flags;
+    unsigned flags, number, key;
     struct holder holder;
     size_t token_size;
     uint32_t verdict, display, version, signature_algorithm, key_algorithm;
@@ -232,7 +242,7 @@ static struct caller take_results(struct source *source, bool front)
     unsigned flags = take8(source);
     uint8_t verdict = take8(source), display = take8(source), holder = take8(source), key = take8(source), fill = take8(source);
     uint32_t version = fill * 257u;
-    struct caller caller = {flags, holder_by(holder), 0, verdict, display, version, version ^ 0x1234, version ^ 0xFFFF};
+    struct caller caller = {flags, holder, key, holder_by(holder), 0, verdict, display, version, version ^ 0x1234, version ^ 0xFFFF};
     caller.verdict ^= take_change(source, flags, CHANGE_VERDICT);
     caller.display ^= take_change(source, flags, CHANGE_DISPLAY);
     caller.version ^= take_change(source, flags, CHANGE_VERSION);
@@ -282,6 +292,16 @@ static void cover_answer(uint32_t refusal, uint32_t answer, size_t table_length)
     cover((outcome * 8 + kind) * 8 + filled % 8);
 }
 
+/* What a call that was served left is the table from now on. Gives its size. */
+static size_t hand_on(bool served, size_t table_length)
+{
+    cover_names(lent.table.peer, lent.table.size, served);
+    if (!served)
+        return lent.table.size;
+    memcpy(lent.table.peer, lent.table_out.token, table_length);
+    return table_length;
+}
+
 /* Both make the call; gives the size of the table left, which is then the table's. */
 static size_t call(const struct caller *c)
 {
@@ -314,13 +334,149 @@ static size_t call(const struct caller *c)
     check_output(&lent.table_out, table_length, "table_out");
     check_inputs();
     cover_names(lent.command.peer, lent.command.size, answer == UAF_DRAFT);
-    cover_names(lent.table.peer, lent.table.size, served);
-    if (served)
-        memcpy(lent.table.peer, lent.table_out.token, table_length);
-    else
-        table_length = lent.table.size;
+    table_length = hand_on(served, table_length);
     cover_answer(refusal, answer, table_length);
     return table_length;
+}
+
+/* Where in a stored record KeyID and mixed token stand, and where from its end the counter; and what every record has at least. */
+enum { KEY_ID_PLACE = 4 + 4, MIXED_PLACE = 4 + 36 + 4, COUNTER_FROM_END = 4, LEAST_RECORD = 4 + 36 + 36 + 4 + 8 };
+
+/* A record of the table that is lent, from its first byte to behind its last. */
+struct record {
+    const uint8_t *at, *end;
+};
+
+/* The table may be any bytes: what looks like a record counts. Gives their number. */
+static size_t find_records(struct record records[UAF_MOST_RECORDS])
+{
+    const uint8_t *at = lent.table.peer, *end = at + lent.table.size;
+    size_t count = 0;
+    while (count < UAF_MOST_RECORDS && end - at >= LEAST_RECORD) {
+        ptrdiff_t whole = 4 + (at[2] | at[3] << 8);
+        if (whole < LEAST_RECORD || whole > end - at)
+            break;
+        records[count++] = (struct record){at, at + whole};
+        at += whole;
+    }
+    return count;
+}
+
+/* A record by its number; NULL where there is none. */
+static const uint8_t *record_by(unsigned number)
+{
+    struct record records[UAF_MOST_RECORDS];
+    size_t count = find_records(records);
+    return count == 0 ? NULL : records[number % count].at;
+}
+
+static void flip(struct input *input, size_t size, uint32_t bit)
+{
+    if (bit != 0 && bit / 8 < size)
+        input->peer[bit / 8] ^= (uint8_t)(1 << bit % 8);
+}
+
+/* The KeyID is there by its number already. */
+static void lend_key_id(const struct caller *caller, bool front)
+{
+    const uint8_t *record = (caller->flags & PUT_APP_ID) != 0 ? record_by(caller->key) : NULL;
+    size_t size = lent.key_id.size;
+    if (record != NULL)
+        memcpy(lent.key_id.peer, record + KEY_ID_PLACE, UAF_KEY_ID_SIZE);
+    flip(&lent.key_id, size, caller->display);
+    lend_input(&lent.key_id, size, front);
+}
+
+/* The mixed token of a withdrawal, or in its place a command of this size. */
+static void lend_mixed(const struct caller *caller, size_t command_size, bool front)
+{
+    const uint8_t *record = (caller->flags & PUT_TOKEN) != 0 ? record_by(caller->number) : NULL;
+    bool by_number = (caller->flags & MEND_OUTER) != 0;
+    size_t size = by_number ? caller->token_size : command_size;
+    memset(lent.mixed.peer, 0, MOST_TOKEN);
+    if (!by_number)
+        memcpy(lent.mixed.peer, lent.command.peer, size);
+    else if (record != NULL)
+        memcpy(lent.mixed.peer, record + MIXED_PLACE, UAF_MIXED_SIZE);
+    else
+        put_mixed(lent.mixed.peer, caller->number);
+    flip(&lent.mixed, size, caller->verdict);
+    lend_input(&lent.mixed, size, front);
+}
+
+/* How the two values meet a table that breaks no rule: the KeyID is nobody's, another holder's, the holder's but not of the newest, or of the newest, and
+ * then which bytes of its counter are 0; by whether records stand before it and behind it. */
+static size_t meeting(void)
+{
+    enum { NOBODYS, OTHERS, OLDER, NEWEST };
+    struct record records[UAF_MOST_RECORDS];
+    size_t count = find_records(records), kind = NOBODYS, place = 0, counted = 0;
+    for (size_t i = 0; i < count; i++) {
+        bool own = memcmp(records[i].at + MIXED_PLACE, lent.mixed.peer, UAF_MIXED_SIZE) == 0;
+        if (memcmp(records[i].at + KEY_ID_PLACE, lent.key_id.peer, UAF_KEY_ID_SIZE) == 0) {
+            kind = own ? NEWEST : OTHERS;
+            place = (i > 0) + 2 * (i + 1 < count);
+            for (size_t k = 0; k < COUNTER_FROM_END; k++)
+                counted |= (size_t)(records[i].end[k - COUNTER_FROM_END] != 0) << k;
+        } else if (own && kind == NEWEST) {
+            kind = OLDER;
+        }
+    }
+    return (kind == NEWEST ? NEWEST + counted : kind) * 4 + place;
+}
+
+/* The withdrawal's refusals, behind the answers of commands; done, and refused with 7, by how the values meet the table. */
+static void cover_withdrawal(uint32_t refusal)
+{
+    enum { OF_WITHDRAWALS = 4096, MOST_MEETINGS = 128 };
+    bool meets = refusal == 0 || refusal == UAF_REFUSED_WITHDRAWAL;
+    cover(OF_WITHDRAWALS + refusal * MOST_MEETINGS + (meets ? meeting() : 0));
+}
+
+/* Both take back; gives the size of the table left, which is then the table's. */
+static size_t withdraw(void)
+{
+    uint32_t refusal = uaf_withdraw(
+        lent.mixed.token, lent.mixed.size, lent.key_id.token, lent.key_id.size, lent.table.token, lent.table.size, lent.table_out.token,
+        lent.table_out.size, (size_t *)lent.table_length.token);
+    uint32_t peers = peer_withdraw(
+        lent.mixed.peer, lent.mixed.size, lent.key_id.peer, lent.key_id.size, lent.table.peer, lent.table.size, lent.table_out.peer,
+        lent.table_out.size, (size_t *)lent.table_length.peer);
+    check_returned(refusal, peers);
+
+    bool served = refusal == 0;
+    size_t table_length = 0;
+    if (served)
+        memcpy(&table_length, lent.table_length.token, sizeof table_length);
+    check_output(&lent.table_length, served ? sizeof table_length : 0, "table_length");
+    check_output(&lent.table_out, table_length, "table_out");
+    check_input(&lent.mixed, "mixed");
+    check_input(&lent.key_id, "key_id");
+    check_input(&lent.table, "table");
+    cover_withdrawal(refusal);
+    return hand_on(served, table_length);
+}
+
+/* Whether the last call, which left so much of a table, was a Register that made a draft: a record more, and only a Register makes one. */
+static bool has_registered(size_t left)
+{
+    return left > lent.table.size;
+}
+
+/* Takes the last call's registration back, by the mixed token in its record, and puts the table back that the call left. */
+static void take_back(size_t left, bool front)
+{
+    static uint8_t former[MOST_TABLE];
+    size_t former_size = lent.table.size;
+    memcpy(former, lent.table.token, former_size);
+    memcpy(lent.mixed.peer, lent.table.peer + former_size + MIXED_PLACE, UAF_MIXED_SIZE);
+    lend_input(&lent.mixed, UAF_MIXED_SIZE, front);
+    lend_input(&lent.table, left, front);
+    lend_output(&lent.table_out, UAF_LEAST_TABLE, front);
+    lend_output(&lent.table_length, sizeof(size_t), front);
+    size_t again = withdraw();
+    check(again == former_size && memcmp(lent.table.peer, former, former_size) == 0, "withdrawal", "not the table before the Register");
+    memcpy(lent.table.peer, lent.table.token, left);
 }
 
 int LLVMFuzzerTestOneInput(const uint8_t *data, size_t size)
@@ -333,9 +489,18 @@ int LLVMFuzzerTestOneInput(const uint8_t *data, size_t size)
     for (int calls = 0; calls < MOST_CALLS && (calls == 0 || source.left > 0); calls++) {
         struct caller caller = take_results(&source, front);
         lend_outputs(&source, front);
-        lend_input(&lent.command, take_command(&source, &caller), front);
+        size_t command_size = take_command(&source, &caller);
         lend_input(&lent.table, table_size, front);
+        if ((flags & FIRST_IS_WITHDRAWAL << calls) != 0) {
+            lend_mixed(&caller, command_size, front);
+            lend_key_id(&caller, front);
+            table_size = withdraw();
+            continue;
+        }
+        lend_input(&lent.command, command_size, front);
         table_size = call(&caller);
+        if (has_registered(table_size))
+            take_back(table_size, front);
     }
     return 0;
 }

@@ -18,6 +18,13 @@ uint32_t peer_command(
     uint8_t *table_out, size_t table_out_size,
     uint32_t *answer, size_t *response_length, size_t *table_length);
 
+uint32_t peer_withdraw(
+    const uint8_t *mixed, size_t mixed_size,
+    const uint8_t *key_id, size_t key_id_size,
+    const uint8_t *table, size_t table_size,
+    uint8_t *table_out, size_t table_out_size,
+    size_t *table_length);
+
 void peer_hash(const uint8_t *first, size_t first_size, const uint8_t *second, size_t second_size, uint8_t hash[UAF_HASH_SIZE]);
 
 uint32_t peer_complete(

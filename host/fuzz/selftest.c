@@ -102,6 +102,25 @@ static bool run_sign(void)
     return command(SIGN, sizeof SIGN, SIGNED_DATA, RECORD);
 }
 
+/* The registered record behind one like it of another holder, which stays: what is written has its length. */
+static bool run_withdraw(void)
+{
+    enum { LAST_OF_KEY_ID = 4 + 36 - 1, LAST_OF_MIXED = 4 + 36 + 36 - 1 };
+    static const uint8_t key_id[UAF_KEY_ID_SIZE], token[UAF_ACCESS_TOKEN_SIZE] = {EIGHT, EIGHT, EIGHT, EIGHT};
+    uint8_t both[2 * RECORD], mixed[UAF_MIXED_SIZE];
+    memcpy(both, table.bytes, RECORD);
+    both[LAST_OF_KEY_ID] ^= 1;
+    both[LAST_OF_MIXED] ^= 1;
+    memcpy(both + RECORD, table.bytes, RECORD);
+    uaf_hash(token, sizeof token, NULL, 0, mixed);
+    uint8_t *table_at = lend("table_out", RECORD);
+    size_t *table_length = (size_t *)lend("table_length", sizeof *table_length);
+    uint32_t refusal = uaf_withdraw(
+        lend_bytes("mixed", mixed, sizeof mixed), sizeof mixed, lend_bytes("key_id", key_id, sizeof key_id), sizeof key_id,
+        lend_bytes("table", both, sizeof both), sizeof both, table_at, UAF_LEAST_TABLE, table_length);
+    return refusal == 0 && *table_length == RECORD && memcmp(table_at, both, RECORD) == 0;
+}
+
 /* Of a length that fills no block. */
 static bool run_hash(void)
 {
@@ -250,6 +269,7 @@ int main(void)
     try_each("Register", run_register, NAMES("command", "aaid", "key_id", "public_key", "response", "table_out", "answer", "response_length",
                                              "table_length"));
     try_each("Complete", run_complete, NAMES("draft", "signature", "certificate", "response", "response_length"));
+    try_each("withdraw", run_withdraw, NAMES("mixed", "key_id", "table", "table_out", "table_length"));
     try_each("Sign", run_sign, NAMES("command", "nonce", "table", "response", "table_out"));
     try_each("hash", run_hash, NAMES("first", "second", "hash"));
     try_each("GetInfo", run_get_info, NAMES("command", "aaid", "metadata", "table", "response", "table_out"));

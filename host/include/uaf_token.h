@@ -22,7 +22,7 @@
  *
  * What they need. The archive is for x86-64, ELF, the System V calling convention. It calls no function outside itself, not even of the C
  * library; it has no data that is written, uses no heap and makes no system call. A command takes less than 3 KB of stack, the hash less than 2,
- * completion, reader and writers less than 1. */
+ * a withdrawal, completion, reader and writers less than 1. */
 #ifndef UAF_TOKEN_H
 #define UAF_TOKEN_H
 
@@ -37,13 +37,14 @@ extern "C" {
  * stored form or what an entry answers has changed or is gone. The minor number rises where something was added that such a caller need not
  * know, and begins again at 0 with a new major one.
  *
+ * 3.1: uaf_withdraw, and refusal 7, which only it gives.
  * 3.0: the token hashes. uaf_command has two stretches fewer, the mixed token and the hash of the content, and works both out itself; an access
  * token has 32 bytes, where 2.1 took 1 to 32. uaf_hash is new. Stored tables are those of 2.1.
  * 2.1: the writers of commands, and refusal 6, which only they give.
  * 2.0: a username is UTF-8. For 1.0 any 1 to 128 bytes were one, so a table that 1.0 wrote may have a name for which 2.0 refuses it. */
 #define UAF_TOKEN_MAJOR 3
-#define UAF_TOKEN_MINOR 0
-#define UAF_TOKEN_VERSION "3.0"
+#define UAF_TOKEN_MINOR 1
+#define UAF_TOKEN_VERSION "3.1"
 
 /* Refusals, statuses and tags stand in a list each, one X(NAME, number) for each of them. From these are made, below, the constants
  * UAF_REFUSED_NAME, UAF_STATUS_NAME and UAF_TAG_NAME, and the functions that give names for a log. */
@@ -55,7 +56,8 @@ extern "C" {
     X(COMMAND, 3, "fewer than 4 bytes, or none of the five commands") \
     X(LENT, 4, "a lent result that this command or completion uses has a wrong length or number") \
     X(BYTES, 5, "no draft of this kind, or no response") \
-    X(FIELD, 6, "a field or the number of key handles breaks a rule, or the command would be too long")
+    X(FIELD, 6, "a field or the number of key handles breaks a rule, or the command would be too long") \
+    X(WITHDRAWAL, 7, "no record has both values, its counter is not 0, or it is not its holder's newest")
 
 /* Statuses, in the STATUS_CODE of a response, by the names of UAF Authenticator Commands without UAF_CMD_STATUS_. */
 #define UAF_STATUSES(X) \
@@ -302,6 +304,23 @@ uint32_t uaf_command(
     uint8_t *response, size_t response_size,
     uint8_t *table_out, size_t table_out_size,
     uint32_t *answer, size_t *response_length, size_t *table_length);
+
+/* Takes back a registration, by mixed token and KeyID: for a Register that made a draft which could not be signed, so that no server knows the key.
+ * The record that has both goes; all others keep content and order. Nothing else is written. Refusals, in this order: 1, 2, 4, 7; 1 is a table
+ * output shorter than UAF_LEAST_TABLE, 4 a mixed token or a KeyID that does not have 32 bytes.
+ *
+ * 7: no record has both values, or its counter is not 0, so that it has signed, or it is not its holder's newest, which is the last in the table
+ * of those with this mixed token. The mixed token is the one by which uaf_command made the record, and uaf_hash gives it.
+ *
+ * After 0 the first *table_length bytes of table_out are the stored form of the table left. Directly after the Register, lent its mixed token and the
+ * KeyID that it was lent, these are the table that the Register was given, byte for byte; where others have called since, theirs stay as they are, and
+ * it is not refused with 7. */
+uint32_t uaf_withdraw(
+    const uint8_t *mixed, size_t mixed_size,
+    const uint8_t *key_id, size_t key_id_size,
+    const uint8_t *table, size_t table_size,
+    uint8_t *table_out, size_t table_out_size,
+    size_t *table_length);
 
 /* Where the KeyID stands in a Sign's draft: the last two TLVs are KEYID and COUNTERS, of 4 bytes, so its value begins that many bytes before the
  * draft's end. The function gives its place, with UAF_KEY_ID_SIZE bytes, in a draft that uaf_command wrote, and NULL in a registration's. */

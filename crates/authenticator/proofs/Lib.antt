@@ -1,2 +1,3 @@
--- The laws of a call's code.
+-- The laws of the code of a call and of a withdrawal.
 pub mod CallLaws
+pub mod WithdrawLaws

@@ -1,2 +1,4 @@
--- The laws of a call by value.
+-- The laws of a call and of a withdrawal by value.
+pub mod LeftLaws
 pub mod RunLaws
+pub mod WithdrawLaws

@@ -6,16 +6,12 @@ use mathlib.Core.Bool.{Bool, true}
 use mathlib.Core.List.{List, []}
 use mathlib.Core.Option.{none, some, Option·getD}
 use Prim.Native.Nat.{ℕ, _≤_}
-use native.Mathlib.Omega.{arith}
-use lib.ListN.{length, take, drop}
-use lib.Seq.{take-at}
+use lib.ListN.{length, take}
 use Rattle.model.specs.Records as model
 use Rattle.model.specs.Records.{maxStored, tableOk, encode, decode}
-use Rattle.model.specs.Commands.{Lent, Call, Given, value, stored, tableOf, refusals, perform, outcome, Result, refused, gave, Effect, bytesOf, over, Outputs, outputs}
-use Rattle.model.specs.Traces.{leftBy}
+use Rattle.model.specs.Commands.{Lent, Call, Given, value, stored, tableOf, refusals, perform, outcome, Result, refused, gave, onGave, Effect, bytesOf, Outputs, outputs}
+use Rattle.model.specs.Traces.{wrote, commands, outcomeOf, leftBy}
 use Rattle.model.proofs.Basics.{impossible}
-use Rattle.model.proofs.Rules.{tests}
-use Rattle.model.proofs.StoredForm.{decode-encode, length-encode}
 use Rattle.model.proofs.Kept.{kept}
 use Rattle.params.specs.Lent.{call}
 use Rattle.authenticator.specs.Outcomes.{isDraft, Told, told, said, toldOf, outputsOf, Ended, ended, ends}
@@ -25,9 +21,9 @@ use Rattle.key_table.specs.Forms.{FormIs, loading}
 use Rattle.key_table.specs.Views.{viewTable}
 use Rattle.key_table.specs.declared.records.Table.{Table}
 use Rattle.key_table.specs.declared.forms.Loaded.{Loaded}
-use Rattle.key_table.proofs.TidyLaws.{view-of-value}
 use Rattle.by_value.specs.Runs as runs
 use Rattle.by_value.specs.declared.Answered.the-variants as answered
+use Rattle.by_value.proofs.LeftLaws.{written-fits, read-again, value-view}
 
 -- ---- a result, by what is said of it
 
@@ -99,15 +95,13 @@ module _ {c : Call} {g : Given} {x : Outcome} {out out′ left′ : List ℕ} (p
     size-is = ap (λ (y : Told). y .table) (done .says)
 
     pub left-fits : m ≤ maxStored
-    left-fits = omega (arith, size-is, length-encode left left-ok)
+    left-fits = written-fits left left-ok size-is
 
     left-read : decode (take m left′) ≡ some left
     unfolding outputs
     left-read =
-        let s : List ℕ = encode left in
-        let f : left′ ≡ over s (p .lent) = ap (λ (y : Outputs). Option·getD (y .table) []) (p .after) ∙ rw (done .is) in
-        let h : take m left′ ≡ s = ap (take m) f ∙ take-at s (drop (length s) (p .lent)) m (sym size-is) in
-        ap decode h ∙ decode-encode left left-ok
+        read-again left left-ok size-is (p .lent)
+        (ap (λ (y : Outputs). Option·getD (y .table) []) (p .after) ∙ rw (done .is))
 
     pub ends-left : (t : Table) {r : Loaded} → r ≡ loading (decode (take m left′))
         → runs.ended (record { answered = answered.Gave d n; table = r .table }) out′ ≡ runs.ends (outcome c g) t out
@@ -120,9 +114,12 @@ module _ {c : Call} {g : Given} {x : Outcome} {out out′ left′ : List ℕ} (p
 -- ---- the table handed back
 
 -- its view is the table that the call leaves
-pub left-view : (c : Call) (g : Given) (t : Table) → viewTable (runs.tableLeft (outcome c g) t) ≡ leftBy (outcome c g) (viewTable t)
-left-view c g t = go (outcome c g) refl
+pub left-view : (c : Call) (g : Given) (t : Table)
+    → viewTable (runs.tableLeft (onGave (λ e. e .left) (outcome c g)) t) ≡ leftBy (outcomeOf (commands c) g) (viewTable t)
+left-view c g t = go (outcome c g) (kept c g)
   where
-    go : (o : Result Effect) → outcome c g ≡ o → viewTable (runs.tableLeft o t) ≡ leftBy o (viewTable t)
-    go (refused n) e = refl
-    go (gave f) e = let k = tests (f .left) (kept c g f e) in view-of-value (f .left) (k .few) (k .each)
+    go : (o : Result Effect) → ((e : Effect) → o ≡ gave e → tableOk (e .left) ≡ true)
+        → viewTable (runs.tableLeft (onGave (λ e. e .left) o) t)
+        ≡ leftBy (onGave (λ e. record { told = wrote (e .answer); left = e .left }) o) (viewTable t)
+    go (refused n) h = refl
+    go (gave e) h = value-view (e .left) (h e refl)

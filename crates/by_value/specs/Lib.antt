@@ -1,2 +1,3 @@
--- What a call by value says and leaves.
+-- What a call by value, and a withdrawal by value, says and leaves.
 pub mod Runs
+pub mod Withdrew

@@ -4,7 +4,8 @@ use mathlib.Core.Bool.{Bool}
 use mathlib.Core.List.{List}
 use mathlib.Core.Option.{none}
 use lib.ListN.{length}
-use Rattle.model.specs.Commands.{Result, refused, gave, Effect, bytesOf, outputs}
+use Rattle.model.specs.Records as model
+use Rattle.model.specs.Commands.{Result, refused, gave, onGave, Effect, bytesOf, outputs}
 use Rattle.authenticator.specs.Outcomes.{isDraft}
 use Rattle.key_table.specs.Views.{tableValue}
 use Rattle.key_table.specs.declared.records.Table.{Table}
@@ -36,11 +37,15 @@ abbrev pub ended : Ran → List ℕ → Ended
 ended r out = record { says = said (r .answered); table = r .table; output = out }
 
 -- "after a refusal" the very value that came; else the table left, its spare bytes zero
-abbrev pub tableLeft : Result Effect → Table → Table
+abbrev pub tableLeft : Result model.Table → Table → Table
 tableLeft (refused n) t = t
-tableLeft (gave e) t = tableValue (e .left)
+tableLeft (gave u) t = tableValue u
 
 -- what a call with this result of the model hands back, where this table and this response output were lent
 unfoldable pub ends : Result Effect → Table → List ℕ → Ended
 ends o t out =
-    record { says = sizeOf o; table = tableLeft o t; output = outputs o (record { response = out; table = none }) .response }
+    record {
+      says = sizeOf o;
+      table = tableLeft (onGave (λ e. e .left) o) t;
+      output = outputs o (record { response = out; table = none }) .response;
+    }

@@ -14,13 +14,13 @@ use Rattle.model.specs.Sha256.{sha256}
 use Rattle.model.specs.Tlv.{le, Tlv, index, appId, challengeHash, username, attestationType, accessToken, keyIdOrNone, full, fieldIn, Kind, register, sign, deregister}
 use Rattle.model.specs.Layouts.{write}
 use Rattle.model.specs.Records.{Record, Table, own, tableOk}
-use Rattle.model.specs.Commands.{Lent, Call, mixedIn, mixedOf, refused, gave, response, draft, registerDraft, signDraft, statusOnly}
-use Rattle.model.specs.Traces.{Form, itself, inStoredForm, Step, callsOf, Seen, observe, final, fresh, roomy, Comparable}
+use Rattle.model.specs.Commands.{Lent, Call, mixedIn, mixedOf, Result, refused, gave, response, draft, registerDraft, signDraft, statusOnly}
+use Rattle.model.specs.Traces.{Act, commands, withdraws, Form, itself, inStoredForm, Step, Told, wrote, done, callsOf, Seen, observe, final, fresh, roomy, Comparable}
 use Rattle.model.proofs.Basics.{impossible, and-left, and-right, eqBytes-eq, all-each}
 use Rattle.model.proofs.Computing.{computing, hashing}
 use Rattle.model.specs.Writer.{command}
 use Rattle.model.proofs.Witness.{zeros, byte, child, lending}
-use Rattle.model.proofs.Separation.{Run, trueRun, run, run-is}
+use Rattle.model.proofs.Separation.{ruling, Said, Run, trueRun, run, run-is}
 
 -- ---- calls
 
@@ -116,7 +116,7 @@ tableOutput m inStoredForm = some (6911 + m)
 
 -- a call of holder m that is lent this and a response output of n bytes
 abbrev calling : List ℕ → ℕ → Lent → ℕ → Form → Step
-calling s m l n f = record { call = record { command = s; lent = l; output = n; tableOutput = tableOutput m f }; form = f }
+calling s m l n f = record { act = commands (record { command = s; lent = l; output = n; tableOutput = tableOutput m f }); form = f }
 
 -- with KeyID k
 abbrev pub step : (ℕ → List ℕ) → ℕ → ℕ → Form → Step
@@ -129,14 +129,14 @@ abbrev pub key : ℕ → ℕ → ℕ → Record
 key m k n = record { keyId = id k; mixed = owner m; name = byte; count = n }
 
 abbrev pub registered : ℕ → ℕ → Seen
-registered m k = record { answer = gave (draft (registerDraft (registerCommand m) (lent k))); records = key m k 0 ∷ [] }
+registered m k = record { answer = gave (wrote (draft (registerDraft (registerCommand m) (lent k)))); records = key m k 0 ∷ [] }
 
 abbrev pub signed : ℕ → ℕ → Seen
-signed m k = record { answer = gave (draft (signDraft (signCommand m) (lent k) (key m k 0))); records = key m k 1 ∷ [] }
+signed m k = record { answer = gave (wrote (draft (signDraft (signCommand m) (lent k) (key m k 0)))); records = key m k 1 ∷ [] }
 
 -- a status alone, with no records left
 abbrev pub told : Kind → ℕ → Seen
-told k n = record { answer = gave (response (write (statusOnly k) (le 2 n ∷ []))); records = [] }
+told k n = record { answer = gave (wrote (response (write (statusOnly k) (le 2 n ∷ [])))); records = [] }
 
 -- ---- traces
 
@@ -158,19 +158,41 @@ repeated = step registerCommand 2 1 itself ∷ quiet
 -- n registrations by others, 8 for each of them
 abbrev pub crowd : ℕ → List Step
 crowd zero = []
-crowd (suc n) = step registerCommand (2 + n / 8) (2 + n) itself ∷ crowd n
+crowd (suc n) = step registerCommand (2 + n / 8) (3 + n) itself ∷ crowd n
 
 abbrev pub crowded : List Step
 crowded = crowd 32 ++ quiet
 
 -- ---- each trace in one run for a holder, with the hashes as they are written out
 
+-- a withdrawal is lent its mixed token
+abbrev isSaid : Act → Bool
+isSaid (commands c) = isToken c
+isSaid (withdraws w) = true
+
+act-said : (a : Act) → isSaid a ≡ true → Said ownerOf a
+act-said (commands c) e = owner-is c e
+act-said (withdraws w) e = tt
+
 abbrev said : List Step → Bool
-said ss = all (λ s. isToken (s .call)) ss
+said ss = all (λ s. isSaid (s .act)) ss
 
 in-one-run : (h : List ℕ) (ss : List Step) → said ss ≡ true → trueRun h ss [] ≡ run ownerOf h ss []
 unfolding tableOk
-in-one-run h ss e = run-is ownerOf h ss [] (all-each _ _ (λ s p. owner-is (s .call) p) ss e) refl
+in-one-run h ss e = run-is ownerOf h ss [] (all-each _ _ (λ s p. act-said (s .act) p) ss e) refl
+
+-- the conditions, by the holder's two runs
+comparable-by : (a b : List Step) {x y : Run} → trueRun (owner 1) a [] ≡ x → trueRun (owner 1) b [] ≡ y → fresh [] a ≡ true → fresh [] b ≡ true
+    → x .calls ≡ y .calls → x .room ≡ true → y .room ≡ true → Comparable (owner 1) a b
+comparable-by a b p q f g c r s =
+    record {
+      holder = refl;
+      same = ap (λ r. r .calls) p ∙ c ∙ sym (ap (λ r. r .calls) q);
+      fresh-a = f;
+      fresh-b = g;
+      roomy-a = ap (λ r. r .room) p ∙ r;
+      roomy-b = ap (λ r. r .room) q ∙ s;
+    }
 
 -- ---- the conditions are met, and none of these calls is in vain
 
@@ -180,39 +202,31 @@ pub record Met : Type 0 where
   pub stranger : observe (owner 2) busy [] ≡ registered 2 2 ∷ signed 2 2 ∷ told deregister 0x00 ∷ []
   pub another : observe (owner 3) busy [] ≡ registered 3 3 ∷ signed 3 3 ∷ []
 
-abbrev callsIn : List Step → List Call
-callsIn ss = map (λ s. s .call) ss
+abbrev callsIn : List Step → List Act
+callsIn ss = map (λ s. s .act) ss
 
 -- the holder's part of `quiet`, and what 1, 2 and 3 see of `busy`
 quiet-of-1 : run ownerOf (owner 1) quiet []
     ≡ record { seen = registered 1 1 ∷ signed 1 1 ∷ told deregister 0x00 ∷ []; calls = callsIn quiet; room = true; records = []; size = 0 }
-unfolding computing
+unfolding computing ruling
 quiet-of-1 = refl
 
 busy-of-1 : run ownerOf (owner 1) busy []
     ≡ record { seen = registered 1 1 ∷ signed 1 1 ∷ told deregister 0x00 ∷ []; calls = callsIn quiet; room = true; records = []; size = 1 }
-unfolding computing
+unfolding computing ruling
 busy-of-1 = refl
 
 quietly : trueRun (owner 1) quiet []
     ≡ record { seen = registered 1 1 ∷ signed 1 1 ∷ told deregister 0x00 ∷ []; calls = callsIn quiet; room = true; records = []; size = 0 }
-unfolding computing
+unfolding computing ruling
 quietly = in-one-run (owner 1) quiet refl ∙ quiet-of-1
 
 pub met : Met
-unfolding computing
+unfolding computing ruling
 met =
     let b = in-one-run (owner 1) busy refl ∙ busy-of-1 in
     record {
-      conditions =
-          record {
-            holder = refl;
-            same = ap (λ r. r .calls) quietly ∙ sym (ap (λ r. r .calls) b);
-            fresh-a = refl;
-            fresh-b = refl;
-            roomy-a = ap (λ r. r .room) quietly;
-            roomy-b = ap (λ r. r .room) b;
-          };
+      conditions = comparable-by quiet busy quietly b refl refl refl refl refl;
       holder = ap (λ r. r .seen) b;
       stranger = ap (λ r. r .seen) (in-one-run (owner 2) busy refl);
       another = ap (λ r. r .seen) (in-one-run (owner 3) busy refl);
@@ -259,47 +273,39 @@ pub record MetFull : Type 0 where
   pub full : length (final filling []) ≡ 32
 
 filling-said : said filling ≡ true
-unfolding computing
+unfolding computing ruling
 filling-said = refl
 
 refusing-of-1 : run ownerOf (owner 1) refusing []
     ≡ record { seen = registered 1 1 ∷ refusedWith 1 ∷ refusedWith 4 ∷ signed 1 1 ∷ []; calls = callsIn refusing; room = true; records = key 1 1 1 ∷ []; size = 1 }
-unfolding computing
+unfolding computing ruling
 refusing-of-1 = refl
 
 -- 1's part, and 9's
 run-of-1 : run ownerOf (owner 1) filling []
     ≡ record { seen = registered 1 1 ∷ refusedWith 1 ∷ refusedWith 4 ∷ signed 1 1 ∷ []; calls = callsIn refusing; room = true; records = key 1 1 1 ∷ []; size = 32 }
-unfolding computing
+unfolding computing ruling
 run-of-1 = refl
 
 run-of-9 : run ownerOf (owner 9) filling []
     ≡ record {
       seen = told register 0x0F ∷ told register 0x0F ∷ [];
-      calls = (step registerCommand 9 99 itself) .call ∷ (step registerCommand 9 98 itself) .call ∷ [];
+      calls = (step registerCommand 9 99 itself) .act ∷ (step registerCommand 9 98 itself) .act ∷ [];
       room = false;
       records = [];
       size = 32;
     }
-unfolding computing
+unfolding computing ruling
 run-of-9 = refl
 
 comparable : Comparable (owner 1) refusing filling
-unfolding computing
+unfolding computing ruling
 comparable =
-    let a = in-one-run (owner 1) refusing refl ∙ refusing-of-1 in
-    let b = in-one-run (owner 1) filling filling-said ∙ run-of-1 in
-    record {
-      holder = refl;
-      same = ap (λ r. r .calls) a ∙ sym (ap (λ r. r .calls) b);
-      fresh-a = refl;
-      fresh-b = refl;
-      roomy-a = ap (λ r. r .room) a;
-      roomy-b = ap (λ r. r .room) b;
-    }
+    comparable-by refusing filling (in-one-run (owner 1) refusing refl ∙ refusing-of-1) (in-one-run (owner 1) filling filling-said ∙ run-of-1) refl refl refl refl
+    refl
 
 pub met-full : MetFull
-unfolding computing
+unfolding computing ruling
 met-full =
     let h = in-one-run (owner 1) filling filling-said ∙ run-of-1 in
     let r = in-one-run (owner 9) filling filling-said ∙ run-of-9 in
@@ -309,6 +315,78 @@ met-full =
       stranger = ap (λ r. r .seen) r;
       records = ap (λ r. r .records) h;
       full = ap (λ r. r .size) r;
+    }
+
+-- ---- withdrawals (request A5) stand in both lists, refused ones included: no room is asked for them, and their KeyIDs are not lent to a Register
+
+-- a withdrawal with these values and a table output of n bytes, where one is lent
+abbrev takingWith : List ℕ → List ℕ → ℕ → Form → Step
+takingWith m k n itself = record { act = withdraws (record { mixed = m; keyId = k; tableOutput = none }); form = itself }
+takingWith m k n inStoredForm = record { act = withdraws (record { mixed = m; keyId = k; tableOutput = some n }); form = inStoredForm }
+
+-- holder m's, of its record with KeyID k
+abbrev pub taking : ℕ → ℕ → Form → Step
+taking m k f = takingWith (owner m) (id k) (6911 + m) f
+
+-- the holder takes 1 back, which is not there yet (7), registers it and takes it back; registers 2, takes 1 back once more (7), signs with 2 and cannot take it
+-- back (7); then with a table output that is too short (1), and a KeyID that is (4)
+abbrev pub taken : List Step
+taken =
+    taking 1 1 inStoredForm ∷ step registerCommand 1 1 inStoredForm ∷ taking 1 1 inStoredForm ∷ step registerCommand 1 2 itself ∷ taking 1 1 itself
+    ∷ step signCommand 1 2 itself ∷ taking 1 2 inStoredForm ∷ takingWith (owner 1) (id 2) 6911 inStoredForm ∷ takingWith (owner 1) (replicate 31 2) 6912 itself ∷ []
+
+-- 31 records are others' from the start. 9 finds the table full, takes back what is the holder's (7), and then, where the holder has, registers and takes that
+-- back; a mixed token of 31 bytes is nobody's
+abbrev pub takenAmong : List Step
+takenAmong =
+    crowd 31
+    ++ (taking 1 1 inStoredForm ∷ step registerCommand 1 1 inStoredForm ∷ step registerCommand 9 98 itself ∷ taking 9 1 itself
+    ∷ takingWith (replicate 31 1) (id 1) 6912 inStoredForm ∷ taking 1 1 inStoredForm ∷ step registerCommand 9 99 inStoredForm
+    ∷ taking 9 99 inStoredForm ∷ step registerCommand 1 2 itself ∷ taking 1 1 itself ∷ step signCommand 1 2 itself
+    ∷ taking 1 2 inStoredForm ∷ takingWith (owner 1) (id 2) 6911 inStoredForm ∷ takingWith (owner 1) (replicate 31 2) 6912 itself ∷ [])
+
+abbrev sees : Result Told → Table → Seen
+sees r t = record { answer = r; records = t }
+
+-- what the holder sees of them
+abbrev takenSeen : List Seen
+takenSeen =
+    sees (refused 7) [] ∷ registered 1 1 ∷ sees (gave done) [] ∷ registered 1 2 ∷ sees (refused 7) (key 1 2 0 ∷ []) ∷ signed 1 2
+    ∷ sees (refused 7) (key 1 2 1 ∷ []) ∷ sees (refused 1) (key 1 2 1 ∷ []) ∷ sees (refused 4) (key 1 2 1 ∷ []) ∷ []
+
+pub record MetTaking : Type 0 where
+  pub conditions : Comparable (owner 1) taken takenAmong
+  pub holder : observe (owner 1) takenAmong [] ≡ takenSeen
+  pub stranger : observe (owner 9) takenAmong []
+      ≡ told register 0x0F ∷ sees (refused 7) [] ∷ registered 9 99 ∷ sees (gave done) [] ∷ []
+  pub full : length (final takenAmong []) ≡ 32
+
+among-said : said takenAmong ≡ true
+unfolding computing ruling
+among-said = refl
+
+taken-of-1 : run ownerOf (owner 1) taken [] ≡ record { seen = takenSeen; calls = callsIn taken; room = true; records = key 1 2 1 ∷ []; size = 1 }
+unfolding computing ruling
+taken-of-1 = refl
+
+among-of-1 : run ownerOf (owner 1) takenAmong [] ≡ record { seen = takenSeen; calls = callsIn taken; room = true; records = key 1 2 1 ∷ []; size = 32 }
+unfolding computing ruling
+among-of-1 = refl
+
+among-of-9 : run ownerOf (owner 9) takenAmong [] .seen ≡ told register 0x0F ∷ sees (refused 7) [] ∷ registered 9 99 ∷ sees (gave done) [] ∷ []
+unfolding computing ruling
+among-of-9 = refl
+
+pub met-taking : MetTaking
+unfolding computing ruling
+met-taking =
+    let a = in-one-run (owner 1) taken refl ∙ taken-of-1 in
+    let b = in-one-run (owner 1) takenAmong among-said ∙ among-of-1 in
+    record {
+      conditions = comparable-by taken takenAmong a b refl refl refl refl refl;
+      holder = ap (λ r. r .seen) b;
+      stranger = ap (λ r. r .seen) (in-one-run (owner 9) takenAmong among-said) ∙ among-of-9;
+      full = ap (λ r. r .size) b;
     }
 
 -- ---- without freshness, or without room, the holder can tell: quietly it registers, and in b it is told a status
@@ -326,15 +404,15 @@ pub record Needed (b : List Step) (fresh-is roomy-is : Bool) (status-is : ℕ) :
   pub differ : observe (owner 1) quiet [] ≡ observe (owner 1) b [] → ⊥
 
 -- a draft is no response
-told-apart : {s t : List Seen} {d r : List ℕ} {u v : Table} → first s ≡ some (record { answer = gave (draft d); records = u })
-    → first t ≡ some (record { answer = gave (response r); records = v }) → s ≡ t → ⊥
+told-apart : {s t : List Seen} {d r : List ℕ} {u v : Table} → first s ≡ some (record { answer = gave (wrote (draft d)); records = u })
+    → first t ≡ some (record { answer = gave (wrote (response r)); records = v }) → s ≡ t → ⊥
 told-apart {d = d} {r = r} p q e =
-    let k : some (gave (draft d)) ≡ some (gave (response r)) = ap (Option·map (λ s. s .answer)) (sym p ∙ ap first e ∙ q) in
+    let k : some (gave (wrote (draft d))) ≡ some (gave (wrote (response r))) = ap (Option·map (λ s. s .answer)) (sym p ∙ ap first e ∙ q) in
     impossible cc
 
 needed : (b : List Step) (f r : Bool) (n : ℕ) → fresh [] b ≡ f → (x : Run) → trueRun (owner 1) b [] ≡ x → x .calls ≡ callsIn quiet → x .room ≡ r
     → first (x .seen) ≡ some (told register n) → Needed b f r n
-unfolding computing
+unfolding computing ruling
 needed b f r n q x e c o a =
     let s : first (observe (owner 1) b []) ≡ some (told register n) = ap (λ r. first (r .seen)) e ∙ a in
     record {
@@ -350,11 +428,11 @@ needed b f r n q x e c o a =
     }
 
 pub freshness-needed : Needed repeated false true 0x01
-unfolding computing
+unfolding computing ruling
 freshness-needed = needed repeated false true 0x01 refl _ (in-one-run (owner 1) repeated refl) refl refl refl
 
 crowded-said : said crowded ≡ true
-unfolding computing
+unfolding computing ruling
 crowded-said = refl
 
 -- the holder's part, in one run
@@ -366,10 +444,10 @@ run-crowded : run ownerOf (owner 1) crowded []
       records = [];
       size = 32;
     }
-unfolding computing
+unfolding computing ruling
 run-crowded = refl
 
 pub room-needed : Needed crowded true false 0x0F
-unfolding computing
+unfolding computing ruling
 room-needed =
     needed crowded true false 0x0F refl _ (in-one-run (owner 1) crowded crowded-said ∙ run-crowded) refl refl refl

@@ -8,8 +8,8 @@ use Prim.Native.Nat.{ℕ, _+_}
 use lib.ListN.{length}
 use Rattle.model.specs.Records.{Table}
 use Rattle.model.specs.Commands.{Result, refused, gave, Answer, response, draft, outcome}
-use Rattle.model.specs.Traces.{Form, handed, answered}
-use Rattle.model.proofs.Computing.{computing, hashing, each-form, token, holder, lent, annThenBo, standing, signCommand, registerCommand, info, krd, annThenBoListed}
+use Rattle.model.specs.Traces.{Form, handed}
+use Rattle.model.proofs.Computing.{computing, hashing, answered, each-form, token, holder, lent, annThenBo, standing, signCommand, registerCommand, info, krd, annThenBoListed}
 
 record Example : Type 0 where
   command : List ℕ

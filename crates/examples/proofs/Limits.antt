@@ -12,9 +12,9 @@ use Rattle.model.specs.Lists.{all, select, eqBytes}
 use Rattle.model.specs.Tlv.{Tlv, tlv, header, bytes}
 use Rattle.model.specs.Records.{Table}
 use Rattle.model.specs.Commands.{Lent, Result, refused, gave, Answer, response, draft, outcome}
-use Rattle.model.specs.Traces.{Form, itself, inStoredForm, handed, answered}
+use Rattle.model.specs.Traces.{Form, itself, inStoredForm, handed}
 use Rattle.model.proofs.Basics.{and-left, and-right, eqBytes-eq}
-use Rattle.model.proofs.Computing.{computing, hashing, each-form, token, lent, stands}
+use Rattle.model.proofs.Computing.{computing, answered, hashing, each-form, token, lent, stands}
 use Rattle.model.proofs.Witness.{zeros, lending}
 
 -- a line of a table: what is computed, and what document 01 says

@@ -12,10 +12,11 @@ use Rattle.model.specs.Tlv.{ruleOf, fits}
 use Rattle.fields.specs.Fields.{named, SizeIs}
 use Rattle.fields.specs.declared.sizes.Size.{Size}
 use Rattle.fields.specs.declared.Field.{Field}
-use Rattle.fields.specs.declared.Field.the-variants.{KeyId, Aaid, Metadata, PublicKey, Nonce, Signature, Certificate}
+use Rattle.fields.specs.declared.Field.the-variants.{KeyId, MixedToken, Aaid, Metadata, PublicKey, Nonce, Signature, Certificate}
 
 any-bytes : (f : Field) (v : List ℕ) → ruleOf (named f) .allowed v ≡ true
 any-bytes KeyId v = refl
+any-bytes MixedToken v = refl
 any-bytes Aaid v = refl
 any-bytes Metadata v = refl
 any-bytes PublicKey v = refl

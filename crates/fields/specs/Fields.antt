@@ -7,11 +7,12 @@ use Rattle.model.specs.Tlv as model
 use Rattle.model.specs.Tlv.{ruleOf}
 use Rattle.fields.specs.declared.sizes.Size.{Size}
 use Rattle.fields.specs.declared.Field.{Field}
-use Rattle.fields.specs.declared.Field.the-variants.{KeyId, Aaid, Metadata, PublicKey, Nonce, Signature, Certificate}
+use Rattle.fields.specs.declared.Field.the-variants.{KeyId, MixedToken, Aaid, Metadata, PublicKey, Nonce, Signature, Certificate}
 
 -- the model's field
 abbrev pub named : Field → model.Field
 named KeyId = model.keyId
+named MixedToken = model.mixedToken
 named Aaid = model.aaid
 named Metadata = model.metadata
 named PublicKey = model.publicKey

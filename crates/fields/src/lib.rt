@@ -20,6 +20,7 @@ pub const LEAST_OUTPUT: usize = 4096;
 // A field of which only the size is asked where it comes from a caller.
 pub enum Field {
     KeyId,
+    MixedToken,
     Aaid,
     Metadata,
     PublicKey,
@@ -34,6 +35,7 @@ fn size_of(f: Field) -> Size
 {
     match f {
         Field::KeyId => sizes::KEY_ID,
+        Field::MixedToken => sizes::MIXED_TOKEN,
         Field::Aaid => sizes::AAID,
         Field::Metadata => sizes::METADATA,
         Field::PublicKey => sizes::PUBLIC_KEY,

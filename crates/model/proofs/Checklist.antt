@@ -5,7 +5,7 @@
 use mathlib.Core.Path.{_≡_, refl, ap, _∙_}
 use mathlib.Core.Bool.{Bool, true, cond}
 use mathlib.Core.List.{List, [], _∷_, _++_}
-use mathlib.Core.Option.{some, Option·getD}
+use mathlib.Core.Option.{Option, none, some, Option·getD}
 use Prim.Native.Nat.{ℕ}
 use lib.ListN.{replicate}
 use Rattle.model.specs.Lists.{all, empty, eqBytes}
@@ -13,9 +13,10 @@ use Rattle.model.specs.Sha256.{sha256}
 use Rattle.model.specs.Tlv.{appId, accessToken, fieldIn}
 use Rattle.model.specs.Records.{Record, Table}
 use Rattle.model.specs.Commands.{Call, mixedIn, Result, Effect, refused, gave, Answer, response, draft, withCount, judge, kind, tableOf, refusals, performFor, perform, outcome}
-use Rattle.model.specs.Traces.{Form, handed, answered, leftBy}
+use Rattle.model.specs.Withdrawals.{withdraw}
+use Rattle.model.specs.Traces.{withdraws, Form, handed, owner}
 use Rattle.model.proofs.Basics.{split, and-left, and-right, eqBytes-eq}
-use Rattle.model.proofs.Computing.{computing, hashing, each-form, token, holder, lent, stands, ann, bo, annThenBo, standing, signCommand, registerCommand, info, krd, signedDataOf, annThenBoListed}
+use Rattle.model.proofs.Computing.{computing, hashing, answered, leftAfter, each-form, token, holder, lent, stands, ann, bo, annThenBo, standing, signCommand, registerCommand, info, krd, signedDataOf, annThenBoListed}
 
 -- ---- the caller's commands, in order, on a table handed in either form: their answers, and the table left. The outputs are as short as they may be
 
@@ -26,11 +27,11 @@ abbrev answers : Form → List (List ℕ) → Table → List (Result Answer)
 answers f [] t = []
 answers f (s ∷ ss) t =
     let o = calls f s t in
-    answered o ∷ answers f ss (leftBy o t)
+    answered o ∷ answers f ss (leftAfter o t)
 
 abbrev left : Form → List (List ℕ) → Table → Table
 left f [] t = t
-left f (s ∷ ss) t = left f ss (leftBy (calls f s t) t)
+left f (s ∷ ss) t = left f ss (leftAfter (calls f s t) t)
 
 pub record Answers (t : Table) (ss : List (List ℕ)) (rs : List (Result Answer)) : Type 0 where
   pub in-either-form : (f : Form) → answers f ss t ≡ rs
@@ -90,11 +91,11 @@ abbrev answersBy : Form → List (List ℕ) → Table → List (Result Answer)
 answersBy f [] t = []
 answersBy f (s ∷ ss) t =
     let o = callsBy f s t in
-    answered o ∷ answersBy f ss (leftBy o t)
+    answered o ∷ answersBy f ss (leftAfter o t)
 
 abbrev tableBy : Form → List (List ℕ) → Table → Table
 tableBy f [] t = t
-tableBy f (s ∷ ss) t = tableBy f ss (leftBy (callsBy f s t) t)
+tableBy f (s ∷ ss) t = tableBy f ss (leftAfter (callsBy f s t) t)
 
 calls-by : (f : Form) (s : List ℕ) (t : Table) → known s ≡ true → calls f s t ≡ callsBy f s t
 unfolding outcome perform
@@ -273,3 +274,74 @@ pub app-id-after-token
     (signsPlain 0xAA (0x08 ∷ 0x00 ∷ 0x00 ∷ 0x00 ∷ []) ∷ signsPlain 0xA0 (0x08 ∷ 0x00 ∷ 0x00 ∷ 0x00 ∷ []) ∷ [])
 unfolding computing
 app-id-after-token = by-answers refl (each-form _ refl refl)
+
+-- ---- request A5: a withdrawal by mixed token and KeyID, with a table output or without, on a table handed in either form
+
+abbrev takes : Form → List ℕ → List ℕ → Option ℕ → Table → Result Table
+takes f m k o t = withdraw (record { mixed = m; keyId = k; tableOutput = o }) (handed f t)
+
+pub record Takes (t : Table) (m k : List ℕ) (o : Option ℕ) (r : Result Table) : Type 0 where
+  pub in-either-form : (f : Form) → takes f m k o t ≡ r
+
+-- a record of the caller that has not signed, and a stranger's
+abbrev unsigned : ℕ → Record
+unsigned k = withCount (stands k (0x41 ∷ [])) 0
+
+abbrev others : ℕ → Record
+others k = record { keyId = replicate 32 k; mixed = replicate 32 0x5A; name = 0x44 ∷ []; count = 0 }
+
+-- "its holder's newest", and not the newest of all; "all others keep content and order"
+pub newest-of-its-holder
+    : Takes (unsigned 0xA1 ∷ unsigned 0xA2 ∷ others 0xE1 ∷ []) holder (replicate 32 0xA2) none (gave (unsigned 0xA1 ∷ others 0xE1 ∷ []))
+unfolding computing
+newest-of-its-holder = record { in-either-form = each-form _ refl refl }
+
+pub gap-closes
+    : Takes (others 0xE1 ∷ unsigned 0xA1 ∷ others 0xE2 ∷ others 0xE3 ∷ []) holder (replicate 32 0xA1) (some 6912)
+    (gave (others 0xE1 ∷ others 0xE2 ∷ others 0xE3 ∷ []))
+unfolding computing
+gap-closes = record { in-either-form = each-form _ refl refl }
+
+-- 7, each case alone: another holder has the KeyID, nobody has it, the counter is 1, a newer one is the holder's
+pub strangers-stays : Takes (unsigned 0xA1 ∷ others 0xE1 ∷ []) holder (replicate 32 0xE1) none (refused 7)
+unfolding computing
+strangers-stays = record { in-either-form = each-form _ refl refl }
+
+pub nobodys-stays : Takes (unsigned 0xA1 ∷ []) holder (replicate 32 0xA2) none (refused 7)
+unfolding computing
+nobodys-stays = record { in-either-form = each-form _ refl refl }
+
+pub signed-stays : Takes (withCount (unsigned 0xA1) 1 ∷ []) holder (replicate 32 0xA1) none (refused 7)
+unfolding computing
+signed-stays = record { in-either-form = each-form _ refl refl }
+
+pub older-stays : Takes (unsigned 0xA1 ∷ unsigned 0xA2 ∷ []) holder (replicate 32 0xA1) none (refused 7)
+unfolding computing
+older-stays = record { in-either-form = each-form _ refl refl }
+
+-- 7 comes "after 2 and 4": a KeyID and a mixed token of 31 bytes, which no record has; a KeyID that stands twice in the table
+pub lengths-first : Takes (unsigned 0xA1 ∷ []) holder (replicate 31 0xA1) none (refused 4)
+unfolding computing
+lengths-first = record { in-either-form = each-form _ refl refl }
+
+pub lengths-of-both : Takes (unsigned 0xA1 ∷ []) (replicate 31 0xA1) (replicate 32 0xA1) none (refused 4)
+unfolding computing
+lengths-of-both = record { in-either-form = each-form _ refl refl }
+
+pub rules-first : Takes (unsigned 0xA1 ∷ unsigned 0xA1 ∷ []) holder (replicate 31 0xA1) (some 6912) (refused 2)
+unfolding computing
+rules-first = record { in-either-form = each-form _ refl refl }
+
+-- "refusal 1 looks only at a table output"
+pub output-first : Takes (unsigned 0xA1 ∷ unsigned 0xA1 ∷ []) holder (replicate 31 0xA1) (some 6911) (refused 1)
+unfolding computing
+output-first = record { in-either-form = each-form _ refl refl }
+
+-- "It counts as a command of its holder", whose mixed token of 32 bytes it is lent; with one of another length it is a stranger's call
+pub counts-as-its-holders : (k : List ℕ) (o : Option ℕ) → owner (withdraws (record { mixed = holder; keyId = k; tableOutput = o })) ≡ some holder
+unfolding computing
+counts-as-its-holders k o = refl
+
+pub counts-as-nobodys : (k : List ℕ) (o : Option ℕ) → owner (withdraws (record { mixed = replicate 31 0xAA; keyId = k; tableOutput = o })) ≡ none
+unfolding computing
+counts-as-nobodys k o = refl

@@ -10,8 +10,9 @@ use Rattle.model.specs.Sha256.{be, _⊞_, rotr, Ch, Maj, Σ0, Σ1, σ0, 
 use Rattle.model.specs.Tlv.{num, le, bytes, tlvsPast, wellFormed, fits, kindOf, childrenOk, children, broken, fieldsIn, fieldIn}
 use Rattle.model.specs.Layouts.{fill, write, matches}
 use Rattle.model.specs.Records.{Record, Table, recordOk, own, tableOk, encode, storedAs, decode}
-use Rattle.model.specs.Commands.{Lent, profileOk, lentOk, judge, apply, only, infoResponse, decideGetInfo, registerDraft, registerChecks, decideRegister, chosen, nameResponse, hasContent, mixedIn, transactionHash, signDraft, signOne, signChosen, decideSign, decideDeregister, decideOpenSettings, decide, perform, tableOf, refusals, outcome}
+use Rattle.model.specs.Commands.{Lent, Result, refused, gave, onGave, Answer, Effect, profileOk, lentOk, judge, apply, only, infoResponse, decideGetInfo, registerDraft, registerChecks, decideRegister, chosen, nameResponse, hasContent, mixedIn, transactionHash, signDraft, signOne, signChosen, decideSign, decideDeregister, decideOpenSettings, decide, perform, tableOf, refusals, outcome}
 use Rattle.model.specs.Writer.{marked, number, pieces, childrenFor, commandOf, eachOk, writable, writeValues, valuesIn, formOf}
+use Rattle.model.specs.Withdrawals.{withdrawRefusals, withdraw}
 use Rattle.model.specs.Traces.{Form, itself, inStoredForm, result, next, final, isHolders, callsOf, observe, fresh, roomy}
 
 unfoldable pub hashing : Unit {0}
@@ -19,8 +20,16 @@ unfolding be _⊞_ rotr Ch Maj Σ0 Σ1 σ0 σ1 K padding wordsOf H0 nextWord ext
 hashing = tt
 
 unfoldable pub computing : Unit {0}
-unfolding eqBytes follow utf8After num le bytes tlvsPast wellFormed fits kindOf childrenOk children broken fieldsIn fieldIn fill write matches recordOk own tableOk encode storedAs decode profileOk lentOk judge apply only infoResponse decideGetInfo registerDraft registerChecks decideRegister chosen nameResponse hasContent transactionHash signDraft signOne signChosen decideSign decideDeregister decideOpenSettings decide perform tableOf refusals outcome marked number pieces childrenFor commandOf eachOk writable writeValues valuesIn formOf result next final isHolders callsOf observe fresh roomy
+unfolding eqBytes follow utf8After num le bytes tlvsPast wellFormed fits kindOf childrenOk children broken fieldsIn fieldIn fill write matches recordOk own tableOk encode storedAs decode profileOk lentOk judge apply only infoResponse decideGetInfo registerDraft registerChecks decideRegister chosen nameResponse hasContent transactionHash signDraft signOne signChosen decideSign decideDeregister decideOpenSettings decide perform tableOf refusals outcome marked number pieces childrenFor commandOf eachOk writable writeValues valuesIn formOf withdrawRefusals withdraw result next final isHolders callsOf observe fresh roomy
 computing = tt
+
+-- what a command answers, and the table after it
+abbrev pub answered : Result Effect → Result Answer
+answered r = onGave (λ e. e .answer) r
+
+abbrev pub leftAfter : Result Effect → Table → Table
+leftAfter (refused n) t = t
+leftAfter (gave e) t = e .left
 
 -- two facts that are computed, one for each form: as clauses each would be computed once more
 pub each-form : (P : Form → Type 0) → P itself → P inStoredForm → (f : Form) → P f

@@ -235,7 +235,7 @@ select-gap p [] r b e = rw e
 select-gap p (x ∷ a) r b e = ap (consIf (p x) x) (select-gap p a r b e)
 
 -- another KeyID
-abbrev other : List ℕ → Record → Bool
+abbrev pub other : List ℕ → Record → Bool
 other k x = not (eqBytes (x .keyId) k)
 
 none-among : (k : List ℕ) (t : Table) → not (among k (keyIds t)) ≡ true → all (other k) t ≡ true
@@ -247,7 +247,7 @@ all-at : (p : Record → Bool) (a : Table) (r : Record) (b : Table) → all p (a
 all-at p [] r b e = and-left (p r) _ e
 all-at p (x ∷ a) r b e = all-at p a r b (and-right (p x) _ e)
 
-others : (a : Table) (r : Record) (b : Table) → distinct (keyIds (a ++ (r ∷ b))) ≡ true → all (other (r .keyId)) (a ++ b) ≡ true
+pub others : (a : Table) (r : Record) (b : Table) → distinct (keyIds (a ++ (r ∷ b))) ≡ true → all (other (r .keyId)) (a ++ b) ≡ true
 others [] r b e = none-among (r .keyId) b (and-left _ _ e)
 others (x ∷ a) r b e =
     let n : not (among (x .keyId) (keyIds (a ++ (r ∷ b)))) ≡ true = and-left _ _ e in
@@ -295,7 +295,7 @@ module _ (m k : List ℕ) where
       (λ g. rw (f, g) (own-key t (rw (f, g) at e))))
       (λ f. rw f (own-key t (rw f at e)))
 
-  key-own : (a : Table) (r : Record) (b : Table) → isKey m k r ≡ true → among k (keyIds (own m (a ++ (r ∷ b)))) ≡ true
+  pub key-own : (a : Table) (r : Record) (b : Table) → isKey m k r ≡ true → among k (keyIds (own m (a ++ (r ∷ b)))) ≡ true
   unfolding own
   key-own [] r b e = rw (and-left (hasMixed m r) _ e, and-right (hasMixed m r) _ e)
   key-own (x ∷ a) r b e =
@@ -303,7 +303,7 @@ module _ (m k : List ℕ) where
       (λ f. split (eqBytes (x .keyId) k) (λ g. rw (f, g)) (λ g. rw (f, g) (key-own a r b e)))
       (λ f. rw f (key-own a r b e))
 
-  gap : (a : Table) (r : Record) (b : Table) → tableOk (a ++ (r ∷ b)) ≡ true → isKey m k r ≡ true
+  pub gap : (a : Table) (r : Record) (b : Table) → tableOk (a ++ (r ∷ b)) ≡ true → isKey m k r ≡ true
       → select (λ x. not (isKey m k x)) (a ++ (r ∷ b)) ≡ a ++ b
   gap a r b e f =
       let q : r .keyId ≡ k = eqBytes-eq (r .keyId) k (and-right (hasMixed m r) _ f) in

@@ -1,6 +1,6 @@
 -- What the token works out by hashing, and whose call it is by it (request A4). Of the hash nothing is used but that it gives 32 bytes.
 -- Assumes nothing.
-use mathlib.Core.Path.{_≡_, refl, ap}
+use mathlib.Core.Path.{_≡_, refl, sym, _∙_}
 use mathlib.Core.Bool.{Bool, true, false, not, cond, _&&_}
 use mathlib.Core.List.{List, [], _∷_, _++_, append-nil}
 use mathlib.Core.Logic.{_⊎_, inl, inr}
@@ -10,12 +10,12 @@ use native.Mathlib.Omega.{arith}
 use lib.ListN.{length}
 use lib.Dec.{leb}
 use borrow.Author.Tests.{not-true}
-use Rattle.model.specs.Lists.{among}
+use Rattle.model.specs.Lists.{eqBytes, among}
 use Rattle.model.specs.Sha256.{sha256}
 use Rattle.model.specs.Tlv.{Bytes, Kind, getInfo, register, sign, deregister, openSettings, appId, accessToken, transactionContent, mixedToken, contentHash, fits, kindOf, broken, fieldIn}
 use Rattle.model.specs.Records.{Table, maxRecords, own, keyIds}
 use Rattle.model.specs.Commands.{Lent, Call, kind, mixedOf, apply, Effect, performFor, perform, Change, keep, Decision, judge, only, mixedIn, hasContent, transactionHash, decideGetInfo, decideRegister, registerChecks, decideSign, decideDeregister, decideOpenSettings, decide}
-use Rattle.model.specs.Traces.{Step, hasToken, isHolders, isOf}
+use Rattle.model.specs.Traces.{commands, Form, hasToken, isHolders, isHolder, isOf}
 use Rattle.model.proofs.Basics.{split, clash, not-not, and-left, and-right, eqBytes-eq, eqBytes-refl}
 use Rattle.model.proofs.LayoutLaws.{size-fits}
 use Rattle.model.proofs.Sha256Laws.{sha256-length, sha256-bytes}
@@ -74,11 +74,11 @@ hash-alike s u e = rw e
 -- ---- a call that is no holder's: no access token, or a rule broken
 
 -- it is decided alike whatever the records, and changes nothing
-record Strangers (k : Kind) (s : List ℕ) (l : Lent) (mine : Table) (taken filled : Bool) : Type 0 where
-  blind : decide k s l mine taken filled ≡ decide k s l [] false false
-  keeps : decide k s l mine taken filled .change ≡ keep
+pub record Strangers (k : Kind) (s : List ℕ) (l : Lent) (mine : Table) (taken filled : Bool) : Type 0 where
+  pub blind : decide k s l mine taken filled ≡ decide k s l [] false false
+  pub keeps : decide k s l mine taken filled .change ≡ keep
 
-strangers : (k : Kind) (s : List ℕ) → (hasToken k && not (broken k s)) ≡ false → (l : Lent) (mine : Table) (taken filled : Bool)
+pub strangers : (k : Kind) (s : List ℕ) → (hasToken k && not (broken k s)) ≡ false → (l : Lent) (mine : Table) (taken filled : Bool)
     → Strangers k s l mine taken filled
 unfolding decide decideGetInfo decideRegister registerChecks decideSign decideDeregister decideOpenSettings judge only
 strangers getInfo s e l mine taken filled =
@@ -104,6 +104,11 @@ strangers-perform k c e t = performed-for (mixedOf c) k c e t
 
 -- ---- whose call it is, in words
 
+-- m's, if it is anybody's
+pub owned : (h : List ℕ) (b : Bool) (m : List ℕ) → isHolder h (cond b (some m) none) ≡ (b && eqBytes m h)
+owned h true m = refl
+owned h false m = refl
+
 pub record HoldersCall (h : List ℕ) (c : Call) : Type 0 where
   pub kind-is : (kindOf (c .command) ≡ some register) ⊎ ((kindOf (c .command) ≡ some sign) ⊎ (kindOf (c .command) ≡ some deregister))
   pub breaks-none : broken (kind c) (c .command) ≡ false
@@ -123,10 +128,10 @@ token-kind (inl e) = rw e
 token-kind (inr (inl e)) = rw e
 token-kind (inr (inr e)) = rw e
 
-pub holders-call : (h : List ℕ) (s : Step) → isOf h s ≡ true → HoldersCall h (s .call)
+pub holders-call : (h : List ℕ) (c : Call) (f : Form) → isOf h (record { act = commands c; form = f }) ≡ true → HoldersCall h c
 unfolding isHolders mixedIn
-holders-call h s e =
-    let c = s .call in
+holders-call h c f o =
+    let e = sym (owned h (isHolders c) (mixedOf c)) ∙ o in
     let b = and-left (isHolders c) _ e in
     record {
       kind-is = has-token (kindOf (c .command)) (and-left (hasToken (kind c)) _ b);
@@ -134,6 +139,6 @@ holders-call h s e =
       hash = eqBytes-eq (mixedOf c) h (and-right (isHolders c) _ e);
     }
 
-pub call-holders : (h : List ℕ) (s : Step) → HoldersCall h (s .call) → isOf h s ≡ true
+pub call-holders : (h : List ℕ) (c : Call) (f : Form) → HoldersCall h c → isOf h (record { act = commands c; form = f }) ≡ true
 unfolding isHolders mixedIn
-call-holders h s o = rw (token-kind (o .kind-is), o .breaks-none, o .hash) (eqBytes-refl h)
+call-holders h c f o = rw (token-kind (o .kind-is), o .breaks-none, o .hash) (eqBytes-refl h)

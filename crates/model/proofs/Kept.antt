@@ -14,8 +14,9 @@ use Rattle.model.specs.Lists.{all, select, given, empty, eqBytes, among,
 use Rattle.model.specs.Tlv.{num, le, fits, keyId, mixedToken, username, keyIdOrNone, bytes, Kind, getInfo, register, sign, deregister, openSettings, broken, fieldIn}
 use Rattle.model.specs.Layouts.{fill, write}
 use Rattle.model.specs.Records.{Record, Table, maxCount, maxRecords, maxOwn, recordOk, hasMixed, own, keyIds, tableOk}
-use Rattle.model.specs.Commands.{Call, Given, value, stored, mixedOf, Result, refused, gave, Answer, response, draft, Change, keep, add, setCount, remove, removeAll, isKey, withCount, apply, Decision, only, signOne, signChosen, chosen, decide, decideGetInfo, registerChecks, decideRegister, decideSign, decideDeregister, decideOpenSettings, Effect, outcome, perform, lentOk, tableOf, kind, refusals}
-use Rattle.model.specs.Traces.{Step, result, next, leftBy}
+use Rattle.model.specs.Commands.{Call, Given, value, stored, mixedOf, Result, refused, gave, onGave, Answer, response, draft, Change, keep, add, setCount, remove, removeAll, isKey, withCount, apply, Decision, only, signOne, signChosen, chosen, decide, decideGetInfo, registerChecks, decideRegister, decideSign, decideDeregister, decideOpenSettings, Effect, outcome, perform, lentOk, tableOf, kind, refusals}
+use Rattle.model.specs.Withdrawals.{Withdrawal, withdrawRefusals, withdraw}
+use Rattle.model.specs.Traces.{Act, commands, withdraws, wrote, done, outcomeOf, Step, handed, result, next, leftBy}
 use Rattle.model.proofs.Basics.{split, clash, and-left, and-right, both, or-left, or-right, not-not, eqBytes-eq, eqBytes-sym, all-append, all-map, select-append, select-comm, all-select, length-select, select-map, judged, impossible}
 use Rattle.model.proofs.StoredForm.{decode-ok}
 use Rattle.model.proofs.HashLaws.{mixed-fits}
@@ -240,13 +241,38 @@ kept c g e p =
     let a : Accepted c g e = accepted c g e p in
     rw (← a .done) (performed (kind c) c (a .table) (a .lent-ok) (given-ok g (a .table) (a .read)))
 
+-- a withdrawal takes records away
+pub withdraw-kept : (w : Withdrawal) (g : Given) (t : Table) → withdraw w g ≡ gave t → tableOk t ≡ true
+unfolding withdraw withdrawRefusals
+withdraw-kept w g t =
+    judged (λ r. r ≡ gave t → tableOk t ≡ true) (withdrawRefusals w g) refused _
+    (λ n p. impossible cc)
+    (λ p. go (tableOf g) refl (not-not _ (p .1 .0)))
+  where
+    go : (o : Option Table) → tableOf g ≡ o → given o ≡ true → gave (apply (w .mixed) (remove (w .keyId)) (Option·getD (tableOf g) [])) ≡ gave t → tableOk t ≡ true
+    go none r h e = clash h refl
+    go (some u) r h e =
+        let k : tableOk (apply (w .mixed) (remove (w .keyId)) u) ≡ true = tested _ (apply-keeps (w .mixed) (remove (w .keyId)) u tt (tests u (given-ok g u r))) in
+        let i : apply (w .mixed) (remove (w .keyId)) u ≡ t = cc in
+        rw i at k
+
 pub next-kept : (s : Step) (t : Table) → tableOk t ≡ true → tableOk (next s t) ≡ true
 unfolding next result
-next-kept s t e = go (result s t) refl
+next-kept s t e = go (s .act)
   where
-    go : (r : Result Effect) → result s t ≡ r → tableOk (leftBy r t) ≡ true
-    go (refused n) p = e
-    go (gave d) p = kept (s .call) _ d p
+    by-command : (r : Result Effect) → ((d : Effect) → r ≡ gave d → tableOk (d .left) ≡ true)
+        → tableOk (leftBy (onGave (λ d. record { told = wrote (d .answer); left = d .left }) r) t) ≡ true
+    by-command (refused n) h = e
+    by-command (gave d) h = h d refl
+
+    by-withdrawal : (r : Result Table) → ((u : Table) → r ≡ gave u → tableOk u ≡ true)
+        → tableOk (leftBy (onGave (λ u. record { told = done; left = u }) r) t) ≡ true
+    by-withdrawal (refused n) h = e
+    by-withdrawal (gave u) h = h u refl
+
+    go : (a : Act) → tableOk (leftBy (outcomeOf a (handed (s .form) t)) t) ≡ true
+    go (commands c) = by-command (outcome c (handed (s .form) t)) (kept c (handed (s .form) t))
+    go (withdraws w) = by-withdrawal (withdraw w (handed (s .form) t)) (withdraw-kept w (handed (s .form) t))
 
 -- a refusal changes nothing
 pub refused-keeps : (s : Step) (t : Table) (n : ℕ) → result s t ≡ refused n → next s t ≡ t

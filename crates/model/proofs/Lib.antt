@@ -32,3 +32,4 @@ pub mod WriterForms
 pub mod Separation
 pub mod Edges
 pub mod EdgesSign
+pub mod WithdrawalLaws

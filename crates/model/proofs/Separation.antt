@@ -1,21 +1,23 @@
 -- The separation of holders: a holder's answers and records are what its own calls alone give, over its own records.
 -- Assumes nothing.
-use mathlib.Core.Path.{_≡_, refl, ap, _∙_}
+use mathlib.Core.Path.{_≡_, refl, sym, ap, _∙_}
 use mathlib.Core.Bool.{Bool, true, false, not, cond, _&&_}
 use mathlib.Core.List.{List, [], _∷_, append-nil}
+use mathlib.Core.Logic.{_⊎_, inl, inr}
 use mathlib.Core.Option.{Option, none, some, Option·getD}
 use Prim.Native.Nat.{ℕ}
 use lib.ListN.{length}
 use lib.Dec.{leb, ltb}
 use borrow.Author.Tests.{ltb-true, lt-leb, not-true}
 use Rattle.model.specs.Lists.{all, consIf, empty, eqBytes, among}
-use Rattle.model.specs.Tlv.{Kind, getInfo, register, sign, deregister, openSettings, kinds, isCommand, kindOf, keyIdOrNone, fieldIn}
+use Rattle.model.specs.Tlv.{Kind, getInfo, register, sign, deregister, openSettings, kinds, isCommand, kindOf, keyIdOrNone, fieldIn, fits, keyId, mixedToken}
 use Rattle.model.specs.Records.{Record, Table, own, keyIds, hasMixed, tableOk, maxRecords}
-use Rattle.model.specs.Commands.{Lent, Call, mixedOf, Check, judge, Result, refused, gave, Answer, Change, keep, add, setCount, remove, removeAll, isKey, withCount, apply, Decision, only, decideGetInfo, decideRegister, signOne, signChosen, decideSign, decideDeregister, decideOpenSettings, decide, Effect, performFor, perform, value, tableOf, kind, refusals, outcome}
-use Rattle.model.specs.Traces.{Form, itself, inStoredForm, Step, handed, result, leftBy, next, final, isHolders, isOf, callsOf, answered, Seen, observe, registers, fresh, roomy, SeparationOfHolders}
-use Rattle.model.proofs.Basics.{Each, split, clash, and-left, and-right, both, eqBytes-eq, eqBytes-refl, eqBytes-sym, all-same, all-append, all-select, select-append, select-comm, select-narrow, select-map, map-select, all-map, first-passes, judged, judge-map}
+use Rattle.model.specs.Commands.{Lent, Call, mixedOf, Check, check, judge, Result, refused, gave, onGave, shortTable, Change, keep, add, setCount, remove, removeAll, isKey, withCount, apply, Decision, only, decideGetInfo, decideRegister, signOne, signChosen, decideSign, decideDeregister, decideOpenSettings, decide, perform, value, tableOf, kind, refusals, outcome}
+use Rattle.model.specs.Withdrawals.{Withdrawal, withdrawalChecks, withdrawRefusals, withdraw}
+use Rattle.model.specs.Traces.{Act, commands, withdraws, Form, itself, inStoredForm, Step, handed, Told, wrote, done, Outcome, outcomeOf, result, leftBy, next, final, isHolders, owner, isHolder, isOf, callsOf, Seen, observe, registers, keyLent, fresh, roomy, SeparationOfHolders}
+use Rattle.model.proofs.Basics.{Each, split, clash, and-left, and-right, both, not-not, eqBytes-eq, eqBytes-refl, eqBytes-sym, all-same, all-append, all-select, select-append, select-comm, select-narrow, select-map, map-select, all-map, first-passes, judged, judge-map}
 use Rattle.model.proofs.StoredForm.{decode-encode}
-use Rattle.model.proofs.HashLaws.{strangers-perform}
+use Rattle.model.proofs.HashLaws.{strangers, owned}
 use Rattle.model.proofs.Kept.{next-kept}
 
 -- ---- selections and changes
@@ -117,68 +119,109 @@ unfolding tableOf
 handed-same itself t e = rw e
 handed-same inStoredForm t e = decode-encode t e
 
--- whether a call is refused, given a table that obeys the rules
-checks : Call → List Check
-checks c = refusals c (value [])
+-- what a call decides: what its holder is told, and the change
+pub record Ruling : Type 0 where
+  pub told : Told
+  pub change : Change
 
-result-is : (s : Step) (t : Table) → tableOk t ≡ true → result s t ≡ judge (checks (s .call)) refused (gave (perform (kind (s .call)) (s .call) t))
-unfolding result outcome checks refusals tableOf tableOk
-result-is s t e = rw (handed-same (s .form) t e)
+-- the checks of a withdrawal that is given a table that obeys the rules
+abbrev withdrawChecks : Withdrawal → (mine : Table) → List Check
+withdrawChecks w mine =
+    check 1 (shortTable (w .tableOutput)) ∷ check 4 (not (fits mixedToken (w .mixed) && fits keyId (w .keyId))) ∷ withdrawalChecks (w .keyId) mine
 
-next-is : (s : Step) (t : Table) → tableOk t ≡ true
-    → next s t ≡ judge (checks (s .call)) (λ n. t) (perform (kind (s .call)) (s .call) t .left)
+-- by the records of its mixed token and two facts about the rest, on a table that obeys the rules; the table itself is not looked at
+unfoldable pub ruling : Act → (mine : Table) (taken filled : Bool) → Result Ruling
+ruling (commands c) mine taken filled =
+    let d = decide (kind c) (c .command) (c .lent) mine taken filled in
+    judge (refusals c (value [])) refused (gave (record { told = wrote (d .answer); change = d .change }))
+ruling (withdraws w) mine taken filled =
+    judge (withdrawChecks w mine) refused (gave (record { told = done; change = remove (w .keyId) }))
+
+-- and it made for mixed token m
+abbrev pub made : List ℕ → Table → Result Ruling → Result Outcome
+made m t r = onGave (λ d. record { told = d .told; left = apply m (d .change) t }) r
+
+-- the mixed token of a call, with those of commands by w
+abbrev pub tokenBy : (Call → List ℕ) → Act → List ℕ
+tokenBy w (commands c) = w c
+tokenBy w (withdraws v) = v .mixed
+
+abbrev tokenOf : Act → List ℕ
+tokenOf a = tokenBy mixedOf a
+
+-- what a call decides on a table, whose records of mixed token m are the caller's
+abbrev pub rulingFor : List ℕ → Act → Table → Result Ruling
+rulingFor m a t = ruling a (own m t) (among (keyLent a) (keyIds t)) (leb maxRecords (length t))
+
+on-judge : {A B : Type 0} (f : A → B) (cs : List Check) (x : A) → onGave f (judge cs refused (gave x)) ≡ judge cs refused (gave (f x))
+on-judge f cs x = judge-map (onGave f) cs refused (gave x)
+
+act-is : (a : Act) (f : Form) (t : Table) → tableOk t ≡ true → outcomeOf a (handed f t) ≡ made (tokenOf a) t (rulingFor (tokenOf a) a t)
+unfolding outcome refusals perform withdraw withdrawRefusals ruling tableOf tableOk
+act-is (commands c) f t e =
+    rw (handed-same f t e) (on-judge _ (refusals c (value [])) _ ∙ sym (on-judge _ (refusals c (value [])) _))
+act-is (withdraws w) f t e =
+    rw (handed-same f t e)
+    (unfold judge in on-judge _ (check 2 false ∷ withdrawChecks w (own (w .mixed) t)) _ ∙ sym (on-judge _ (withdrawChecks w (own (w .mixed) t)) _))
+
+result-is : (s : Step) (t : Table) → tableOk t ≡ true → result s t ≡ made (tokenOf (s .act)) t (rulingFor (tokenOf (s .act)) (s .act) t)
+unfolding result
+result-is s t e = act-is (s .act) (s .form) t e
+
+-- the change of a call: none if it is refused
+abbrev changed : Result Ruling → Change
+changed (refused n) = keep
+changed (gave d) = d .change
+
+made-told : (m : List ℕ) (t : Table) (r : Result Ruling) → onGave (λ o. o .told) (made m t r) ≡ onGave (λ d. d .told) r
+made-told m t (refused n) = refl
+made-told m t (gave d) = refl
+
+made-left : (m : List ℕ) (t : Table) (r : Result Ruling) → leftBy (made m t r) t ≡ apply m (changed r) t
+unfolding apply
+made-left m t (refused n) = refl
+made-left m t (gave d) = refl
+
+next-is : (s : Step) (t : Table) → tableOk t ≡ true → next s t ≡ apply (tokenOf (s .act)) (changed (rulingFor (tokenOf (s .act)) (s .act) t)) t
 unfolding next
-next-is s t e = rw (result-is s t e) (judge-map (λ r. leftBy r t) (checks (s .call)) refused _)
+next-is s t e = rw (result-is s t e) (made-left (tokenOf (s .act)) t (rulingFor (tokenOf (s .act)) (s .act) t))
 
--- a stranger's call leaves the holder's records
-next-other : (h : List ℕ) (s : Step) (t : Table) → tableOk t ≡ true → isOf h s ≡ false → own h (next s t) ≡ own h t
-unfolding isHolders
+-- ---- whose it is
+
+-- the owner's mixed token is that of the call
+owner-token : (h : List ℕ) (a : Act) → isHolder h (owner a) ≡ true → tokenOf a ≡ h
+owner-token h (commands c) o = eqBytes-eq (mixedOf c) h (and-right (isHolders c) _ (sym (owned h (isHolders c) (mixedOf c)) ∙ o))
+owner-token h (withdraws w) o =
+    eqBytes-eq (w .mixed) h (and-right (fits mixedToken (w .mixed)) _ (sym (owned h (fits mixedToken (w .mixed)) (w .mixed)) ∙ o))
+
+-- a call that is not the holder's has another mixed token, or changes nothing
+stranger-changes : (h : List ℕ) (a : Act) → isHolder h (owner a) ≡ false → (mine : Table) (taken filled : Bool)
+    → (eqBytes (tokenOf a) h ≡ false) ⊎ (changed (ruling a mine taken filled) ≡ keep)
+unfolding ruling isHolders
+stranger-changes h (commands c) o mine taken filled =
+    split (isHolders c)
+    (λ b. inl (rw b at (sym (owned h (isHolders c) (mixedOf c)) ∙ o)))
+    (λ b. inr (judged (λ r. changed r ≡ keep) (refusals c (value [])) refused _ (λ n. refl)
+    (λ p. strangers (kind c) (c .command) b (c .lent) mine taken filled .keeps)))
+stranger-changes h (withdraws w) o mine taken filled =
+    split (fits mixedToken (w .mixed))
+    (λ b. inl (rw b at (sym (owned h (fits mixedToken (w .mixed)) (w .mixed)) ∙ o)))
+    (λ b. inr (judged (λ r. changed r ≡ keep) _ refused _ (λ n. refl)
+    (λ p. clash (and-left (fits mixedToken (w .mixed)) _ (not-not _ (p .1 .0))) b)))
+
+-- it leaves the holder's records
+pub next-other : (h : List ℕ) (s : Step) (t : Table) → tableOk t ≡ true → isOf h s ≡ false → own h (next s t) ≡ own h t
+unfolding apply
 next-other h s t e o =
-    rw (next-is s t e)
-    (judged (λ u. own h u ≡ own h t) (checks (s .call)) _ _ (λ n. refl)
-    (λ k. split (isHolders (s .call)) (λ b. unfold perform in other-apply _ h (rw b at o) _ t) (λ b. rw (strangers-perform (kind (s .call)) (s .call) b t))))
+    ap (own h) (next-is s t e)
+    ∙ go (stranger-changes h (s .act) o (own (tokenOf (s .act)) t) (among (keyLent (s .act)) (keyIds t)) (leb maxRecords (length t)))
+  where
+    go : (eqBytes (tokenOf (s .act)) h ≡ false) ⊎ (changed (rulingFor (tokenOf (s .act)) (s .act) t) ≡ keep)
+        → own h (apply (tokenOf (s .act)) (changed (rulingFor (tokenOf (s .act)) (s .act) t)) t) ≡ own h t
+    go (inl d) = other-apply (tokenOf (s .act)) h d (changed (rulingFor (tokenOf (s .act)) (s .act) t)) t
+    go (inr k) = rw k
 
--- what a holder's call alone decides, answers and leaves over its own records, with its KeyID new and room in the table
-ruling : Call → Table → Decision
-ruling c mine = decide (kind c) (c .command) (c .lent) mine false false
-
-answerAlone : Call → Table → Result Answer
-answerAlone c mine = judge (checks c) refused (gave (ruling c mine .answer))
-
-leftAlone : Call → Table → Table
-leftAlone c mine = judge (checks c) (λ n. mine) (apply (mixedOf c) (ruling c mine .change) mine)
-
--- a call that registers finds its KeyID new and room in the table
-abbrev Free : Call → Table → Type 0
-Free c t = kind c ≡ register → (among (c .lent .keyId) (keyIds t) ≡ false) × (leb maxRecords (length t) ≡ false)
-
-module _ (s : Step) (t : Table) (e : tableOk t ≡ true) (free : Free (s .call) t) where
-  abbrev mine : Table
-  mine = own (mixedOf (s .call)) t
-
-  performed-alone : perform (kind (s .call)) (s .call) t
-      ≡ record { answer = ruling (s .call) mine .answer; left = apply (mixedOf (s .call)) (ruling (s .call) mine .change) t }
-  unfolding perform ruling
-  performed-alone = rw (decide-free (kind (s .call)) (s .call .command) (s .call .lent) mine _ _ free)
-
-  answer-alone : answered (result s t) ≡ answerAlone (s .call) mine
-  unfolding answerAlone
-  answer-alone = rw (result-is s t e, performed-alone) (judge-map answered (checks (s .call)) refused _)
-
-  left-alone : own (mixedOf (s .call)) (next s t) ≡ leftAlone (s .call) mine
-  unfolding leftAlone
-  left-alone =
-      rw (next-is s t e, performed-alone, ← own-apply (mixedOf (s .call)) (ruling (s .call) mine .change) t)
-      (judge-map (own (mixedOf (s .call))) (checks (s .call)) (λ n. t) _)
-
--- ---- the rest of a trace
-
--- what holds at each call: the rules, and what is asked of the rest; seen are the KeyIDs lent so far
-record Going (h : List ℕ) (seen : List (List ℕ)) (ss : List Step) (t : Table) : Type 0 where
-  rules : tableOk t ≡ true
-  lent : lentIn seen t ≡ true
-  new : fresh seen ss ≡ true
-  room : roomy h ss t ≡ true
+-- ---- a holder's call over its own records
 
 -- what is decided as a Register is one by its outer tag
 named : (s : List ℕ) (o : Option Kind) → kindOf s ≡ o → Option·getD o getInfo ≡ register → isCommand s register ≡ true
@@ -189,6 +232,50 @@ named s (some x) e k = first-passes (isCommand s) kinds register (e ∙ ap some 
 registered : (c : Call) → kind c ≡ register → isCommand (c .command) register ≡ true
 registered c k = named (c .command) (kindOf (c .command)) refl k
 
+-- only a Register asks whether its KeyID is stored and whether the table is full
+ruling-free : (a : Act) (mine : Table) (taken filled : Bool) → (registers a ≡ true → (taken ≡ false) × (filled ≡ false))
+    → ruling a mine taken filled ≡ ruling a mine false false
+unfolding ruling
+ruling-free (commands c) mine taken filled h =
+    rw (decide-free (kind c) (c .command) (c .lent) mine taken filled (λ k. h (registered c k)))
+ruling-free (withdraws w) mine taken filled h = refl
+
+-- what a holder's call alone decides over its own records, with its KeyID new and room in the table; and the records it leaves
+abbrev alone : Act → Table → Result Ruling
+alone a mine = ruling a mine false false
+
+abbrev leftAlone : Act → Table → Table
+leftAlone a mine = apply (tokenOf a) (changed (alone a mine)) mine
+
+-- a call that registers finds its KeyID new and room in the table
+abbrev Free : Act → Table → Type 0
+Free a t = registers a ≡ true → (among (keyLent a) (keyIds t) ≡ false) × (leb maxRecords (length t) ≡ false)
+
+module _ (s : Step) (t : Table) (e : tableOk t ≡ true) (free : Free (s .act) t) where
+  abbrev mine : Table
+  mine = own (tokenOf (s .act)) t
+
+  ruled-alone : rulingFor (tokenOf (s .act)) (s .act) t ≡ alone (s .act) mine
+  ruled-alone = ruling-free (s .act) mine _ _ free
+
+  answer-alone : onGave (λ o. o .told) (result s t) ≡ onGave (λ d. d .told) (alone (s .act) mine)
+  answer-alone =
+      ap (onGave (λ o. o .told)) (result-is s t e) ∙ made-told (tokenOf (s .act)) t (rulingFor (tokenOf (s .act)) (s .act) t) ∙ ap (onGave (λ d. d .told)) ruled-alone
+
+  left-alone : own (tokenOf (s .act)) (next s t) ≡ leftAlone (s .act) mine
+  left-alone =
+      ap (own (tokenOf (s .act))) (next-is s t e) ∙ own-apply (tokenOf (s .act)) _ t
+      ∙ ap (λ r. apply (tokenOf (s .act)) (changed r) mine) ruled-alone
+
+-- ---- the rest of a trace
+
+-- what holds at each call: the rules, and what is asked of the rest; seen are the KeyIDs lent so far
+record Going (h : List ℕ) (seen : List (List ℕ)) (ss : List Step) (t : Table) : Type 0 where
+  rules : tableOk t ≡ true
+  lent : lentIn seen t ≡ true
+  new : fresh seen ss ≡ true
+  room : roomy h ss t ≡ true
+
 -- a KeyID not yet lent is not stored
 not-stored : (k : List ℕ) (seen : List (List ℕ)) → among k seen ≡ false → (t : Table) → lentIn seen t ≡ true → among k (keyIds t) ≡ false
 not-stored k seen n [] e = refl
@@ -198,18 +285,27 @@ not-stored k seen n (r ∷ t) e =
     (λ d. clash (rw (eqBytes-eq (r .keyId) k d) at (and-left (among (r .keyId) seen) _ e)) n)
     (λ d. cc)
 
+-- a call adds no record but with the KeyID that it is lent as a Register
+ruling-adds : (seen : List (List ℕ)) (a : Act) (mine : Table) (taken filled : Bool) → (registers a ≡ true → among (keyLent a) seen ≡ true)
+    → addsLent seen (changed (ruling a mine taken filled)) ≡ true
+unfolding ruling
+ruling-adds seen (commands c) mine taken filled h =
+    judged (λ r. addsLent seen (changed r) ≡ true) (refusals c (value [])) refused _ (λ n. refl)
+    (λ p. adds-decide seen (kind c) _ _ _ _ _ (λ k. h (registered c k)))
+ruling-adds seen (withdraws w) mine taken filled h =
+    judged (λ r. addsLent seen (changed r) ≡ true) _ refused _ (λ n. refl) (λ p. refl)
+
 -- the KeyIDs lent after a call
 after : Step → List (List ℕ) → List (List ℕ)
-after s seen = cond (registers s) (s .call .lent .keyId ∷ seen) seen
+after s seen = cond (registers (s .act)) (keyLent (s .act) ∷ seen) seen
 
 module _ (h : List ℕ) (seen : List (List ℕ)) (s : Step) (ss : List Step) (t : Table) (g : Going h seen (s ∷ ss) t) where
   abbrev lentNow : List ℕ
-  lentNow = s .call .lent .keyId
+  lentNow = keyLent (s .act)
 
-  free : isOf h s ≡ true → Free (s .call) t
+  free : isOf h s ≡ true → Free (s .act) t
   unfolding fresh roomy
-  free o k =
-      let r : registers s ≡ true = registered (s .call) k in
+  free o r =
       let n = not-true (among lentNow seen) (and-left _ _ (rw r at (g .new))) in
       let l = ltb-true (length t) maxRecords (and-left (ltb (length t) maxRecords) _ (rw (o, r) at (g .room))) in
       (not-stored lentNow seen n t (g .lent), lt-leb _ _ l)
@@ -217,21 +313,18 @@ module _ (h : List ℕ) (seen : List (List ℕ)) (s : Step) (ss : List Step) (t 
   lent-still : lentIn (after s seen) t ≡ true
   unfolding after
   lent-still =
-      split (registers s)
+      split (registers (s .act))
       (λ r. rw r (all-same (λ q e. split (eqBytes lentNow (q .keyId)) (λ d. cc) (λ d. cc)) t (g .lent)))
       (λ r. rw r (g .lent))
 
-  lent-now : registers s ≡ true → among lentNow (after s seen) ≡ true
+  lent-now : registers (s .act) ≡ true → among lentNow (after s seen) ≡ true
   unfolding after
   lent-now r = rw (r, eqBytes-refl lentNow)
 
   lent-next : lentIn (after s seen) (next s t) ≡ true
-  unfolding perform
   lent-next =
       rw (next-is s t (g .rules))
-      (judged (λ u. lentIn (after s seen) u ≡ true) (checks (s .call)) _ _ (λ n. lent-still)
-      (λ p. apply-lent (after s seen) (mixedOf (s .call)) _ t
-      (adds-decide (after s seen) (kind (s .call)) _ _ _ _ _ (λ k. lent-now (registered (s .call) k))) lent-still))
+      (apply-lent (after s seen) (tokenOf (s .act)) _ t (ruling-adds (after s seen) (s .act) _ _ _ lent-now) lent-still)
 
   going : Going h (after s seen) ss (next s t)
   unfolding fresh roomy after
@@ -239,31 +332,32 @@ module _ (h : List ℕ) (seen : List (List ℕ)) (s : Step) (ss : List Step) (t 
       record {
         rules = next-kept s t (g .rules);
         lent = lent-next;
-        new = and-right (not (registers s && among lentNow seen)) _ (g .new);
-        room = and-right (cond (isOf h s && registers s) (ltb (length t) maxRecords) true) _ (g .room);
+        new = and-right (not (registers (s .act) && among lentNow seen)) _ (g .new);
+        room = and-right (cond (isOf h s && registers (s .act)) (ltb (length t) maxRecords) true) _ (g .room);
       }
 
 -- ---- the whole trace
 
-observeAlone : List Call → Table → List Seen
+observeAlone : List Act → Table → List Seen
 observeAlone [] t = []
-observeAlone (c ∷ cs) t = record { answer = answerAlone c t; records = leftAlone c t } ∷ observeAlone cs (leftAlone c t)
+observeAlone (a ∷ rest) t =
+    record { answer = onGave (λ d. d .told) (alone a t); records = leftAlone a t } ∷ observeAlone rest (leftAlone a t)
 
-finalAlone : List Call → Table → Table
+finalAlone : List Act → Table → Table
 finalAlone [] t = t
-finalAlone (c ∷ cs) t = finalAlone cs (leftAlone c t)
+finalAlone (a ∷ rest) t = finalAlone rest (leftAlone a t)
 
 record Alone (h : List ℕ) (ss : List Step) (t : Table) : Type 0 where
   answers : observe h ss t ≡ observeAlone (callsOf h ss) (own h t)
   records : own h (final ss t) ≡ finalAlone (callsOf h ss) (own h t)
 
-alone : (h : List ℕ) (seen : List (List ℕ)) (ss : List Step) (t : Table) → Going h seen ss t → Alone h ss t
+by-itself : (h : List ℕ) (seen : List (List ℕ)) (ss : List Step) (t : Table) → Going h seen ss t → Alone h ss t
 unfolding observe final callsOf observeAlone finalAlone
-alone h seen [] t g = record { answers = refl; records = refl }
-alone h seen (s ∷ ss) t g =
-    let ih = alone h (after s seen) ss (next s t) (going h seen s ss t g) in
+by-itself h seen [] t g = record { answers = refl; records = refl }
+by-itself h seen (s ∷ ss) t g =
+    let ih = by-itself h (after s seen) ss (next s t) (going h seen s ss t g) in
     split (isOf h s)
-    (λ o. let m = eqBytes-eq (mixedOf (s .call)) h (and-right (isHolders (s .call)) _ o) in
+    (λ o. let m = owner-token h (s .act) o in
     let a = answer-alone s t (g .rules) (free h seen s ss t g o) in
     let l = left-alone s t (g .rules) (free h seen s ss t g o) in
     record { answers = cc; records = cc })
@@ -272,43 +366,59 @@ alone h seen (s ∷ ss) t g =
 pub separation : SeparationOfHolders
 unfolding tableOk own
 separation h a b c =
-    let p = alone h [] a [] (record { rules = refl; lent = refl; new = c .fresh-a; room = c .roomy-a }) in
-    let q = alone h [] b [] (record { rules = refl; lent = refl; new = c .fresh-b; room = c .roomy-b }) in
+    let p = by-itself h [] a [] (record { rules = refl; lent = refl; new = c .fresh-a; room = c .roomy-a }) in
+    let q = by-itself h [] b [] (record { rules = refl; lent = refl; new = c .fresh-b; room = c .roomy-b }) in
     record { seen = cc; records = cc }
 
 -- ---- a trace run with no check of the table, which computes in a third of the time: a table that obeys the rules needs none; and with the mixed tokens
--- said by w, so that no hash is computed more than once
+-- of commands said by w, so that no hash is computed more than once
 
 -- what a holder sees, its calls, whether it finds room, its records at the end, and how many there are in all; the same with a call before, which is the holder's or not
 pub record Run : Type 0 where
   pub seen : List Seen
-  pub calls : List Call
+  pub calls : List Act
   pub room : Bool
   pub records : Table
   pub size : ℕ
 
-abbrev pub before : Bool → List ℕ → Step → Table → Result Effect → Run → Run
+abbrev pub before : Bool → List ℕ → Step → Table → Result Outcome → Run → Run
 before mine h s t r rest =
     record {
-      seen = cond mine (record { answer = answered r; records = own h (leftBy r t) } ∷ rest .seen) (rest .seen);
-      calls = consIf mine (s .call) (rest .calls);
-      room = cond (mine && registers s) (ltb (length t) maxRecords) true && rest .room;
+      seen = cond mine (record { answer = onGave (λ o. o .told) r; records = own h (leftBy r t) } ∷ rest .seen) (rest .seen);
+      calls = consIf mine (s .act) (rest .calls);
+      room = cond (mine && registers (s .act)) (ltb (length t) maxRecords) true && rest .room;
       records = rest .records;
       size = rest .size;
     }
 
+abbrev ownerBy : (Call → List ℕ) → Act → Option (List ℕ)
+ownerBy w (commands c) = cond (isHolders c) (some (w c)) none
+ownerBy w (withdraws v) = owner (withdraws v)
+
 abbrev pub run : (Call → List ℕ) → List ℕ → List Step → Table → Run
 run w h [] t = record { seen = []; calls = []; room = true; records = own h t; size = length t }
 run w h (s ∷ ss) t =
-    let m = w (s .call) in
-    let r = judge (refusals (s .call) (value [])) refused (gave (performFor m (kind (s .call)) (s .call) t)) in
-    before (isHolders (s .call) && eqBytes m h) h s t r (run w h ss (leftBy r t))
+    let m = tokenBy w (s .act) in
+    let r = made m t (rulingFor m (s .act) t) in
+    before (isHolder h (ownerBy w (s .act))) h s t r (run w h ss (leftBy r t))
 
--- w says the mixed tokens
+-- w says the mixed token of a command
+abbrev pub Said : (Call → List ℕ) → Act → Type 0
+Said w (commands c) = w c ≡ mixedOf c
+Said w (withdraws v) = Unit {0}
+
 abbrev pub Says : (Call → List ℕ) → List Step → Type 0
-Says w ss = Each (λ s. w (s .call) ≡ mixedOf (s .call)) ss
+Says w ss = Each (λ s. Said w (s .act)) ss
 
-calls-of : (h : List ℕ) (s : Step) (ss : List Step) → callsOf h (s ∷ ss) ≡ consIf (isOf h s) (s .call) (callsOf h ss)
+said-token : (w : Call → List ℕ) (a : Act) → Said w a → tokenBy w a ≡ tokenOf a
+said-token w (commands c) e = e
+said-token w (withdraws v) e = refl
+
+said-owner : (w : Call → List ℕ) (a : Act) → Said w a → ownerBy w a ≡ owner a
+said-owner w (commands c) e = rw e
+said-owner w (withdraws v) e = refl
+
+calls-of : (h : List ℕ) (s : Step) (ss : List Step) → callsOf h (s ∷ ss) ≡ consIf (isOf h s) (s .act) (callsOf h ss)
 unfolding callsOf
 calls-of h s ss = split (isOf h s) (λ e. rw e) (λ e. rw e)
 
@@ -318,9 +428,9 @@ trueRun h ss t =
     record { seen = observe h ss t; calls = callsOf h ss; room = roomy h ss t; records = own h (final ss t); size = length (final ss t) }
 
 pub run-is : (w : Call → List ℕ) (h : List ℕ) (ss : List Step) (t : Table) → Says w ss → tableOk t ≡ true → trueRun h ss t ≡ run w h ss t
-unfolding observe roomy final next checks
+unfolding observe roomy final next
 run-is w h [] t u e = unfold callsOf in refl
 run-is w h (s ∷ ss) t u e =
     rw (calls-of h s ss)
     (ap (before (isOf h s) h s t (result s t)) (run-is w h ss (next s t) (u .1) (next-kept s t e))
-    ∙ rw (result-is s t e, u .0) (unfold perform in refl))
+    ∙ rw (result-is s t e, said-token w (s .act) (u .0), said-owner w (s .act) (u .0)))

@@ -15,7 +15,6 @@ use Rattle.model.specs.Tlv.{Bytes, Tlv, Kind, getInfo, register, sign, d
 use Rattle.model.specs.Layouts.{write}
 use Rattle.model.specs.Records.{Table, hasMixed, keyIds, own, recordOk, tableOk, maxCount}
 use Rattle.model.specs.Commands.{statuses, Call, mixedIn, lentOk, signChosen, perform, Result, refused, gave, Effect, Answer, response, statusOnly, value, outcome}
-use Rattle.model.specs.Traces.{answered}
 use Rattle.model.proofs.Basics.{either, clash, and-left, and-right, both, eqBytes-eq, eqBytes-refl, length-select, impossible, Each}
 use Rattle.model.specs.Writer.{command}
 use Rattle.model.proofs.HashLaws.{mixed-bytes, mixed-fits}
@@ -26,7 +25,7 @@ use Rattle.model.proofs.Edges.{no-place}
 use Rattle.model.proofs.LayoutLaws.{AllBytes}
 use Rattle.model.proofs.Witness.{Answered, recordParts, stretches, zeros, byte, token, zero-bytes, child, calling, lendingZeros, registering, signing, kind-command, calling-gives}
 use Rattle.model.proofs.DraftWitness.{sign-chooses}
-use Rattle.model.proofs.Computing.{computing}
+use Rattle.model.proofs.Computing.{computing, answered}
 
 -- ---- the caller's records
 

@@ -59,6 +59,11 @@ pub data Result (A : Type 0) : Type 0 where
   refused : ℕ → Result A
   gave : A → Result A
 
+-- the same refusal, or f of the result
+abbrev pub onGave : {A B : Type 0} → (A → B) → Result A → Result B
+onGave f (refused n) = refused n
+onGave f (gave x) = gave (f x)
+
 -- ---- "Calls first check"
 
 -- "1, response output shorter than 4,096 or, where a stored table is written, its own output shorter than 6,912"
@@ -66,8 +71,11 @@ abbrev pub leastOutput : ℕ
 leastOutput = 4096
 
 -- without a table output none is too short
+abbrev pub shortTable : Option ℕ → Bool
+shortTable table = ltb (Option·getD table maxStored) maxStored
+
 abbrev pub shortOutput : ℕ → Option ℕ → Bool
-shortOutput n table = ltb n leastOutput || ltb (Option·getD table maxStored) maxStored
+shortOutput n table = ltb n leastOutput || shortTable table
 
 -- a call is given the table itself or its stored form; none if "the table or its stored form breaks a rule"
 pub data Given : Type 0 where

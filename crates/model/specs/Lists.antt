@@ -29,6 +29,11 @@ module _ {A : Type 0} where
   first [] = none
   first (x ∷ xs) = some x
 
+  -- the last element; d if there is none
+  abbrev pub last : A → List A → A
+  last d [] = d
+  last d (x ∷ xs) = last x xs
+
   -- there is no element; there is something
   abbrev pub empty : List A → Bool
   empty [] = true

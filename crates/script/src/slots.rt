@@ -6,7 +6,7 @@ use tlv::writer::put_bytes;
 ghost use Prim.Native.Nat.{_<_};
 
 // Arguments lie in slots of SIZE bytes: the length of one in two bytes, then at most MOST bytes.
-pub const SLOTS: usize = 34;
+pub const SLOTS: usize = 35;
 
 pub const MOST: usize = 8448;
 
@@ -82,6 +82,9 @@ pub const HANDLES: usize = 32;
 
 pub const HANDLE_SIZES: usize = 33;
 
+// Of a withdrawal, which also has KEY_ID, TABLE and TABLE_LENGTH.
+pub const MIXED: usize = 34;
+
 // The slot that a letter sets. One that starts a comment has none: there is no slot of this number, so nothing is set.
 pub fn slot_of(letter: u8) -> usize {
     match letter {
@@ -119,6 +122,7 @@ pub fn slot_of(letter: u8) -> usize {
         b'W' => VERIFY_TOKEN_GIVEN,
         b'H' => HANDLES,
         b'L' => HANDLE_SIZES,
+        b'M' => MIXED,
         _ => SLOTS,
     }
 }

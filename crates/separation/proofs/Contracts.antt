@@ -11,11 +11,16 @@ use Rattle.token.proofs.uaf_command.Kinds as command-kinds
 use Rattle.token.proofs.uaf_command.Reads as command-reads
 use Rattle.by_value.proofs.run.Kinds as run-kinds
 use Rattle.by_value.proofs.run.Reads as run-reads
+use Rattle.token.proofs.withdrawals.uaf_withdraw.Kinds as withdraw-kinds
+use Rattle.token.proofs.withdrawals.uaf_withdraw.Reads as withdraw-reads
+use Rattle.by_value.proofs.withdraw.withdraw.Kinds as taking-kinds
+use Rattle.by_value.proofs.withdraw.withdraw.Reads as taking-reads
 use Rattle.key_table.proofs.forms.load.Kinds as load-kinds
 use Rattle.key_table.proofs.forms.load.Reads as load-reads
 use Rattle.key_table.proofs.forms.store.Kinds as store-kinds
 use Rattle.key_table.proofs.forms.store.Reads as store-reads
-use Rattle.separation.specs.Calls.{Promised, asStored, byValue, command, run, load, store}
+use Rattle.token.specs.Written.{wrote}
+use Rattle.separation.specs.Calls.{Promised, asStored, byValue, command, run, withdrawing, taking, load, store}
 
 module _ (κs : Lfts 12) (a : Dens κs command-kinds.ps) (r : resT command-kinds.r κs .Denot) (s : AtExit (endedOf 12 command-kinds.ps command-kinds.r) κs) where
   pub command-promises : command-reads.Learnt κs a r s
@@ -46,6 +51,19 @@ module _ (κs : Lfts 7) (a : Dens κs run-kinds.ps) (r : resT run-kinds.r κs .D
         ran = r;
       }))
   run-promises p = p
+
+module _ (κs : Lfts 5) (a : Dens κs withdraw-kinds.ps) (r : resT withdraw-kinds.r κs .Denot) (s : AtExit (endedOf 5 withdraw-kinds.ps withdraw-kinds.r) κs) where
+  pub withdrawing-promises : withdraw-reads.Learnt κs a r s
+      → let (mixed, (keyId, (table, (out, (n, end))))) = a in
+      let (_, (_, (_, (out′, (n′, end′))))) = s in
+      Promised (asStored (now table))
+      (withdrawing (record { mixed = now mixed; keyId = now keyId; before = wrote 0 (now n) (now out); after = wrote r (now n′) (now out′) }))
+  withdrawing-promises p = p
+
+module _ (κs : Lfts 2) (a : Dens κs taking-kinds.ps) (r : resT taking-kinds.r κs .Denot) (s : AtExit (endedOf 2 taking-kinds.ps taking-kinds.r) κs) where
+  pub taking-promises : taking-reads.Learnt κs a r s
+      → let (mixed, (keyId, (t, end))) = a in Promised (byValue t) (taking (record { mixed = now mixed; keyId = now keyId; withdrew = r }))
+  taking-promises p = p
 
 module _ (κs : Lfts 1) (a : Dens κs load-kinds.ps) (r : resT load-kinds.r κs .Denot) (s : AtExit (endedOf 1 load-kinds.ps load-kinds.r) κs) where
   pub load-promises : load-reads.Learnt κs a r s → Promised (asStored (now (a .0))) (load r)

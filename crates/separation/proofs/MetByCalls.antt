@@ -12,10 +12,10 @@ use Rattle.model.specs.Commands.{Result, refused, gave}
 use Rattle.model.specs.Traces.{Step, observe, Comparable}
 use Rattle.model.proofs.Basics.{impossible}
 use Rattle.model.proofs.Computing.{computing}
-use Rattle.examples.proofs.Conditions.{owner, quiet, busy, refusing, filling, repeated, crowded, met, met-full, Needed, freshness-needed, room-needed}
+use Rattle.examples.proofs.Conditions.{owner, quiet, busy, refusing, filling, taken, takenAmong, repeated, crowded, met, met-full, met-taking, Needed, freshness-needed, room-needed}
 use Rattle.key_table.specs.Views.{tableValue}
 use Rattle.key_table.proofs.TidyLaws.{view-of-value}
-use Rattle.separation.specs.Calls.{Made, Held, byValue, asStored, Calls, steps, Wrote, Told, toldTo, Empty, offered}
+use Rattle.separation.specs.Calls.{Made, Held, byValue, asStored, Calls, steps, Said, wrote, done, Told, toldTo, Empty, offered}
 use Rattle.separation.proofs.SeparationOfCalls.{found, seenAs, calls-are}
 use Rattle.separation.proofs.EveryTrace.{every-trace}
 
@@ -57,15 +57,20 @@ met-by-calls = met-so quiet busy refl refl (met .conditions)
 pub met-full-by-calls : MetByCalls refusing filling
 met-full-by-calls = met-so refusing filling refl refl (met-full .conditions)
 
+-- with withdrawals, a full table among them
+pub met-taking-by-calls : MetByCalls taken takenAmong
+met-taking-by-calls = met-so taken takenAmong refl refl (met-taking .conditions)
+
 -- ---- needed: without freshness, or without room, the holder is told something else first
 
 -- a response is told by 0, a draft by 1
 abbrev numberOf : Told → ℕ
 numberOf t = number (t .says)
   where
-    number : Result Wrote → ℕ
+    number : Result Said → ℕ
     number (refused n) = 2
-    number (gave w) = w .answer
+    number (gave (wrote w)) = w .answer
+    number (gave done) = 3
 
 first-map : {A B : Type 0} (f : A → B) (xs : List A) → first (map f xs) ≡ Option·map f (first xs)
 first-map f [] = refl

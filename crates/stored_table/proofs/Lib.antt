@@ -3,5 +3,6 @@ pub mod IndexLaws
 pub mod RunLaws
 pub mod LoadLaws
 pub mod LookupLaws
+pub mod NewestLaws
 pub mod ChangeLaws
 pub mod LeftLaws

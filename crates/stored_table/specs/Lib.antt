@@ -3,3 +3,4 @@ pub mod Stored
 pub mod Index
 pub mod Chosen
 pub mod Changes
+pub mod Newest

@@ -144,7 +144,13 @@ fn stored_from<'a>(table: &'a [u8], places: &[usize], i: usize, j: usize) -> &'a
 
 // The table without the record of a mixed token that has this KeyID or, if the KeyID is empty, without all of the mixed token's. The rest keeps its
 // order and closes the gap: what stands between two records that go is written at once.
-fn put_removed(out: &mut [u8], table: &[u8], places: &[usize], mixed: &[u8], key: &[u8]) -> usize
+pub fn put_removed(
+    out: &mut [u8],
+    table: &[u8],
+    places: &[usize],
+    mixed: &[u8],
+    key: &[u8],
+) -> usize
     requires { ⌜ Indexed (now table) (now places) × (length (now table) ≤ length (now out)) ⌝ }
     ensures { λ r. ⌜
         Wrote (now (out .entry)) 0 (encode (apply (now (mixed .entry)) (removal (now (key .entry))) (tableIn (now (table .entry)))))

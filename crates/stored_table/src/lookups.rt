@@ -1,19 +1,22 @@
 use crate::left::next_going;
 use crate::records::KEY_ID;
 use crate::records::MIXED;
+use crate::records::count_of;
 use tlv::rows::is_among;
 use tlv::rows::row_is;
 use tlv::rows::same_row;
 use tlv::rows::times_in;
 ghost use mathlib.Core.Path.{_≡_};
 ghost use Prim.Native.Nat.{_+_, _≤_};
-ghost use mathlib.Core.Bool.{false, _||_};
+ghost use mathlib.Core.Bool.{false, _&&_, _||_};
+ghost use lib.Dec.{eqb};
 ghost use lib.ListN.{length};
-ghost use Rattle.model.specs.Lists.{among, empty};
+ghost use Rattle.model.specs.Lists.{among, empty, eqBytes};
 ghost use Rattle.model.specs.Records.{own, keyIds};
 ghost use Rattle.tlv.specs.Rows.{row, rows, Within};
-ghost use Rattle.stored_table.specs.Stored.{Indexed, tableIn};
+ghost use Rattle.stored_table.specs.Stored.{Stands, recordAt, Indexed, tableIn};
 ghost use Rattle.stored_table.specs.Chosen.{ChosenAre, positions, isChosen};
+ghost use Rattle.stored_table.specs.Newest.{withdrawable};
 
 // Whether a KeyID is stored, by anybody.
 pub fn is_stored(table: &[u8], places: &[usize], key: &[u8]) -> bool
@@ -86,4 +89,32 @@ pub fn is_own(table: &[u8], places: &[usize], mixed: &[u8], key: &[u8]) -> bool
     ensures { λ r. ⌜ r ≡ among (now (key .entry)) (keyIds (own (now (mixed .entry)) (tableIn (now (table .entry))))) ⌝ }
 {
     next_going(table, places, 0, mixed, key) < places.len()
+}
+
+// Whether the record at a place has this KeyID and has not signed.
+fn is_unsigned(table: &[u8], place: usize, key: &[u8]) -> bool
+    requires { ⌜ Stands (now table) place ⌝ }
+    ensures { λ r. ⌜ r ≡ (eqBytes (recordAt (now (table .entry)) place .keyId) (now (key .entry)) && eqb (recordAt (now (table .entry)) place .count) 0) ⌝ }
+{
+    if !row_is(table, place + KEY_ID, key) {
+        return false;
+    }
+    count_of(table, place) == 0
+}
+
+// Whether the record of a mixed token with this KeyID can be taken back: it is the newest of the mixed token's and has not signed. So the last record
+// with the mixed token decides, and one with the KeyID that stands before it does not count.
+pub fn is_withdrawable(table: &[u8], places: &[usize], mixed: &[u8], key: &[u8]) -> bool
+    requires { ⌜ Indexed (now table) (now places) ⌝ }
+    ensures { λ r. ⌜ r ≡ withdrawable (now (key .entry)) (own (now (mixed .entry)) (tableIn (now (table .entry)))) ⌝ }
+{
+    let mut i = places.len();
+    while 0 < i {
+        i -= 1;
+        let last = places[i];
+        if row_is(table, last + MIXED, mixed) {
+            return is_unsigned(table, last, key);
+        }
+    }
+    false
 }

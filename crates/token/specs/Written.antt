@@ -1,4 +1,5 @@
--- All that the firmware gets back from an entry with one output: a completion, or a writer of commands. After a refusal nothing that it lent has changed.
+-- All that the firmware gets back from an entry with one output: a completion, a withdrawal, or a writer of commands. After a refusal nothing that it
+-- lent has changed.
 use Prim.Native.Nat.{ℕ}
 use mathlib.Core.List.{List}
 use lib.ListN.{length}

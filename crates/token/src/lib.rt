@@ -2,6 +2,7 @@
 pub mod hashes;
 pub mod responses;
 mod told;
+pub mod withdrawals;
 pub mod writers;
 
 use authenticator::call::call;

@@ -1,8 +1,8 @@
 // Runs the calls of a script on the C entries, or on a table by value, and writes what each gives. A line of the script is a letter, a space
 // and bytes in hexadecimal, which sets an argument until it is set again; '!', a space and a name run a command, and '?' does so and writes
-// the table left; '&' and '@' do the same by value; '=' completes a draft; '<' reads a response, and '^' changes a byte of it; '+' writes a command; '%' hashes.
-// Other lines are comments. After a command that is not refused the table left is the table of the next, whichever its form; a completed response is
-// the next one read, and a written command the next one run.
+// the table left; '&' and '@' do the same by value; '-' withdraws, and '~' does so by value; '=' completes a draft; '<' reads a response, and '^' changes a
+// byte of it; '+' writes a command; '%' hashes. Other lines are comments. After a command or a withdrawal that is not refused the table left is the table
+// of the next, whichever its form; a completed response is the next one read, and a written command the next one run.
 use script::slots::MOST;
 use script::slots::READ;
 use script::slots::SIZE;
@@ -13,6 +13,7 @@ use script::text::read_hex;
 use tlv::numbers::get16;
 use trace_commands::hashes::hash;
 use trace_commands::run;
+use trace_commands::withdrawals::take_back;
 use trace_responses::complete;
 use trace_responses::read;
 use trace_writers::write;
@@ -49,6 +50,8 @@ fn obey(line: &[u8], mem: &mut [u8]) {
         b'?' => run(rest, false, true, mem),
         b'&' => run(rest, true, false, mem),
         b'@' => run(rest, true, true, mem),
+        b'-' => take_back(rest, false, mem),
+        b'~' => take_back(rest, true, mem),
         b'=' => complete(rest, mem),
         b'<' => read(rest, mem),
         b'^' => change(rest, mem),

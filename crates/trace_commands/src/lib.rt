@@ -1,7 +1,8 @@
-// Calls from the arguments in the slots, and the line that says what each gave: of `uaf_command` here, on a table by value in `values`, of `uaf_hash` in
-// `hashes`.
+// Calls from the arguments in the slots, and the line that says what each gave: of `uaf_command` here, on a table by value in `values`, of `uaf_withdraw`
+// and of a withdrawal by value in `withdrawals`, of `uaf_hash` in `hashes`.
 pub mod hashes;
 mod values;
+pub mod withdrawals;
 
 use crate::values::run_by_value;
 use params::lent::Numbers;

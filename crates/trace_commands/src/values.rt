@@ -1,5 +1,5 @@
 // Calls on a table by value. The table in its slot is loaded, spoilt if the script asks for it, and handed to the call; the table that comes
-// back is stored again. The line is one of these, where SUM is a sum of a whole output that is untouched:
+// back is stored again. The line of a command is one of these, where SUM is a sum of a whole output that is untouched:
 //   NAME: load N                            the slot has the stored form of no table, and nothing is called
 //   NAME: by value, refusal N SUM           the call is refused; then what storing the table that came back gives
 //   NAME: by value, response or draft ..    what was written into the response output; then the same
@@ -9,6 +9,7 @@ use crate::write_kind;
 use by_value::Answered;
 use by_value::Ran;
 use by_value::run;
+use by_value::withdraw;
 use fields::refusals::Written;
 use key_table::forms::load;
 use key_table::forms::store;
@@ -18,6 +19,7 @@ use script::slots::AAID;
 use script::slots::COMMAND;
 use script::slots::KEY_ID;
 use script::slots::METADATA;
+use script::slots::MIXED;
 use script::slots::NONCE;
 use script::slots::PUBLIC_KEY;
 use script::slots::SPOILT;
@@ -118,7 +120,7 @@ fn call(mem: &[u8], t: Table, response: &mut [u8]) -> Ran {
 }
 
 // Says a word and the number of a refusal.
-fn tell(what: &[u8], refusal: u32) {
+pub fn tell(what: &[u8], refusal: u32) {
     io::write_all(1, what);
     write_next(refusal as usize);
 }
@@ -151,9 +153,12 @@ fn tell_stored(stored: Written, table_out: &[u8], dump: bool) {
     }
 }
 
-// Keeps the stored form for the next call, if there is one and the call was not refused.
-fn keep(answered: Answered, stored: Written, table_out: &[u8], mem: &mut [u8]) {
-    if let Answered::Refused(_) = answered {
+// Stores the table that came back from a call and says what that gave. The stored form is kept for the next call, if there is one and the call was not
+// refused.
+fn hand_back(t: Table, refused: bool, dump: bool, mem: &mut [u8], table_out: &mut [u8]) {
+    let stored = store(t, table_out);
+    tell_stored(stored, table_out, dump);
+    if refused {
         return;
     }
     let Written::Wrote(n) = stored else {
@@ -162,15 +167,20 @@ fn keep(answered: Answered, stored: Written, table_out: &[u8], mem: &mut [u8]) {
     slots::store(table_out, n, TABLE, mem);
 }
 
-// Calls with a table, stores the one that came back and says what both gave.
+// Whether a call was refused.
+fn is_refused(answered: Answered) -> bool {
+    match answered {
+        Answered::Refused(_) => true,
+        Answered::Gave { .. } => false,
+    }
+}
+
+// Calls with a table, says what that gave and hands back the table left.
 fn run_on(t: Table, dump: bool, mem: &mut [u8], response: &mut [u8], table_out: &mut [u8]) {
     let ran = call(mem, t, response);
     let answered = ran.answered;
     tell_answered(answered, response);
-    let left = ran.table;
-    let stored = store(left, table_out);
-    tell_stored(stored, table_out, dump);
-    keep(answered, stored, table_out, mem);
+    hand_back(ran.table, is_refused(answered), dump, mem, table_out);
 }
 
 // Loads the table in its slot, and calls if there is one.
@@ -183,4 +193,32 @@ pub fn run_by_value(dump: bool, mem: &mut [u8], response: &mut [u8], table_out: 
     io::write_all(1, b"by value, ");
     let t = spoil(loaded.table, number(mem, SPOILT));
     run_on(t, dump, mem, response, table_out);
+}
+
+// Says whether a withdrawal by value was refused.
+fn tell_withdrew(refusal: u32) {
+    if refusal != 0 {
+        tell(b"refusal", refusal);
+        return;
+    }
+    io::write_all(1, b"withdrawn");
+}
+
+// Withdraws from a table by value, says what that gave and hands back the table left.
+fn withdraw_from(t: Table, mem: &mut [u8], table_out: &mut [u8]) {
+    let done = withdraw::withdraw(arg(mem, MIXED), arg(mem, KEY_ID), t);
+    tell_withdrew(done.refusal);
+    hand_back(done.table, done.refusal != 0, true, mem, table_out);
+}
+
+// Loads the table in its slot, and withdraws from it if there is one.
+pub fn withdraw_by_value(mem: &mut [u8], table_out: &mut [u8]) {
+    let loaded = load(arg(mem, TABLE));
+    if loaded.refusal != 0 {
+        tell(b"load", loaded.refusal);
+        return;
+    }
+    io::write_all(1, b"by value, ");
+    let t = spoil(loaded.table, number(mem, SPOILT));
+    withdraw_from(t, mem, table_out);
 }

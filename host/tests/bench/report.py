@@ -13,13 +13,13 @@ import tempfile
 
 SIDES = {"token": "uaf_", "peer": "peer_"}
 WRITERS = ("write_get_info", "write_register", "write_sign", "write_deregister", "write_open_settings")
-ENTRIES = ("command", "complete", "signed_part", "read_fields", "hash", *WRITERS)
+ENTRIES = ("command", "withdraw", "complete", "signed_part", "read_fields", "hash", *WRITERS)
 # What mbedTLS has one function for.
 MBEDTLS, MBEDTLS_HASH = "mbedtls", "mbedtls_sha256"
 # The kinds of entries, as the stack and the worst ratio are told of each.
-COMMAND, READER, WRITER, HASH = "a command", "completion and reader", "a writer", "the hash"
-GROUPS = (COMMAND, READER, WRITER, HASH)
-# How the name of a case ends that is a command on a table, and what heads the column of that kind.
+COMMAND, WITHDRAWAL, READER, WRITER, HASH = "a command", "a withdrawal", "completion and reader", "a writer", "the hash"
+GROUPS = (COMMAND, WITHDRAWAL, READER, WRITER, HASH)
+# How the name of a case ends that is a command or a withdrawal on a table, and what heads the column of that kind.
 KINDS = {"": "random, 12", ", long names": "random, 128", ", alike": "alike, 12", ", alike, long names": "alike, 128"}
 TEXTS = ("latin", "cyrillic", "kana", "mixed")
 NAMED = {f", {text}{long}": f"{text}, {size}" for text in TEXTS for long, size in (("", 12), (", long names", 128))}
@@ -68,6 +68,8 @@ class Row:
             self.ns[MBEDTLS], self.mbedtls_ratio = float(times["mbedtls ns"]), float(times["token / mbedtls"])
 
     def group_of(self):
+        if self.case.startswith(("Withdraw", "withdraw:")):
+            return WITHDRAWAL
         if self.on_table or self.case.startswith(("refused:", "Register:", "Sign:", CHOSEN)):
             return COMMAND
         if self.case.startswith("hash:"):
@@ -118,12 +120,12 @@ def hashes(rows):
 
 
 def by_size(rows):
-    """The rows of commands on a table, by command and number of records, then by kind of table."""
+    """The rows of commands and withdrawals on a table, by what is called and number of records, then by kind of table."""
     sizes = {}
     for row in rows:
         if row.on_table:
-            command, records, kind = row.on_table.groups()
-            sizes.setdefault((command, records), {})[kind] = row
+            called, records, kind = row.on_table.groups()
+            sizes.setdefault((called, records), {})[kind] = row
     return sizes.items()
 
 
@@ -131,17 +133,17 @@ def ratios(kinds, wanted):
     return [f"{kinds[kind].ratio:.2f}" if kind in kinds else "" for kind in wanted]
 
 
-def commands(rows):
-    """A line for a command and a number of records: all figures of the first kind of table, and the ratio of the others."""
+def on_tables(rows):
+    """A line for a command or a withdrawal and a number of records: all figures of the first kind of table, and the ratio of the others."""
     first, *others = KINDS
     cells = [[*size, *kinds[first].figures(), *ratios(kinds, others)] for size, kinds in by_size(rows)]
-    return markdown(["command", "records", *FIGURES, *(KINDS[kind] for kind in others)], cells)
+    return markdown(["call", "records", *FIGURES, *(KINDS[kind] for kind in others)], cells)
 
 
 def texts(rows):
-    """A line for a command and a number of records: the ratio for names in each text, and of each length."""
+    """A line for a command or a withdrawal and a number of records: the ratio for names in each text, and of each length."""
     cells = [[*size, *ratios(kinds, NAMED)] for size, kinds in by_size(rows) if kinds.keys() & NAMED.keys()]
-    return markdown(["command", "records", *NAMED.values()], cells)
+    return markdown(["call", "records", *NAMED.values()], cells)
 
 
 def dearer(rows):
@@ -198,15 +200,15 @@ def text_size(archive):
 def report(bench, archive, rows):
     yield machine(bench)
     yield ""
-    yield "Commands, with KeyIDs and mixed tokens that are random and names of 12 bytes; in the last columns the ratio where they are otherwise:"
+    yield "Commands and withdrawals, KeyIDs and mixed tokens random, names of 12 bytes; in the last columns the ratio where they are otherwise:"
     yield ""
-    yield from commands(rows)
+    yield from on_tables(rows)
     yield ""
     yield "The ratio with names of 12 and of 128 bytes in other texts, KeyIDs and mixed tokens random:"
     yield ""
     yield from texts(rows)
     yield ""
-    yield "A command on KeyIDs and mixed tokens of one sum, a Register whose name is cut, commands with much to hash, refused commands, completion and reader:"
+    yield "KeyIDs and mixed tokens of one sum, a Register whose name is cut, much to hash, refused commands and withdrawals, completion and reader:"
     yield ""
     yield from listed([row for row in rows if not row.on_table and row.group not in (WRITER, HASH)])
     yield ""

@@ -13,7 +13,7 @@ import sys
 # The source's constants, and what they are called in the header.
 REFUSALS = {
     "SHORT_OUTPUT": "OUTPUT", "BROKEN_TABLE": "TABLE", "NO_COMMAND": "COMMAND", "WRONG_LENT": "LENT", "NOT_WRITTEN": "BYTES",
-    "BAD_FIELD": "FIELD",
+    "BAD_FIELD": "FIELD", "NOT_WITHDRAWABLE": "WITHDRAWAL",
 }
 LIMITS = {
     "fields/src/lib.rt": {"MAX_COMMAND": "MOST_COMMAND", "LEAST_OUTPUT": "LEAST_RESPONSE"},

@@ -1401,6 +1401,201 @@ static void contents(void)
     expect(pool_is_as_lent(), "Sign changed its content");
 }
 
+/* ---- the withdrawal */
+
+/* A withdrawal to be: what is lent, and how long the output is said to be. */
+struct withdrawal {
+    const uint8_t *mixed_at;
+    size_t mixed_size;
+    const uint8_t *key_at;
+    size_t key_size;
+    size_t room;
+};
+
+static struct withdrawal taking(const uint8_t *holder, const uint8_t *key)
+{
+    struct withdrawal t = {holder, UAF_MIXED_SIZE, key, UAF_KEY_ID_SIZE, sizeof table_out};
+    return t;
+}
+
+static uint32_t take_back(const struct withdrawal *t, const struct bytes *table)
+{
+    fill_outputs();
+    return uaf_withdraw(t->mixed_at, t->mixed_size, t->key_at, t->key_size, table->at, table->length, table_out, t->room, &table_length);
+}
+
+/* It leaves this table, and changes nothing else. */
+static void is_withdrawn(const struct withdrawal *t, const struct bytes *table, const struct bytes *left, const char *what)
+{
+    const struct bytes table_lent = *table;
+    expect(take_back(t, table) == 0, what);
+    expect(same(left, table_out, table_length) && untouched(table_out, table_length, sizeof table_out), what);
+    expect(untouched(response, 0, sizeof response) && answer == 77 && response_length == 78, "a withdrawal wrote more than a table");
+    expect(same(&table_lent, table->at, table->length) && stretches_are_as_lent(), "a withdrawal changed what was lent");
+}
+
+static void is_kept(const struct withdrawal *t, const struct bytes *table, uint32_t refusal, const char *what)
+{
+    const struct bytes table_lent = *table;
+    expect(take_back(t, table) == refusal, what);
+    expect(all_untouched(), "a refused withdrawal wrote");
+    expect(same(&table_lent, table->at, table->length) && stretches_are_as_lent(), "a refused withdrawal changed what was lent");
+}
+
+/* The caller's newest between two of another holder, and an older one of the caller's before them; then the table without it. */
+static void four_records(struct bytes *table, struct bytes *left, unsigned count)
+{
+    uint8_t key[UAF_KEY_ID_SIZE];
+    table->length = left->length = 0;
+    for (int i = 1; i <= 4; i++) {
+        memset(key, i, sizeof key);
+        if (i == 3) {
+            add_record(table, key_id, ann, count);
+            continue;
+        }
+        add_record_of(table, i == 1 ? mixed : mixed_with_firm, key, ann, (unsigned)(i - 1));
+        add_record_of(left, i == 1 ? mixed : mixed_with_firm, key, ann, (unsigned)(i - 1));
+    }
+}
+
+static void withdraws(void)
+{
+    struct bytes table = {{0}, 0}, left = {{0}, 0}, none = {{0}, 0};
+    struct withdrawal t = taking(mixed, key_id);
+    four_records(&table, &left, 0);
+    is_withdrawn(&t, &table, &left, "a withdrawal");
+    t.room = UAF_LEAST_TABLE;
+    is_withdrawn(&t, &table, &left, "a withdrawal into an output of the least length");
+    stored_record(&table, 0);
+    is_withdrawn(&t, &table, &none, "a withdrawal of the only record");
+
+    /* the longest table: 32 records with names of 128 bytes, of which the last goes */
+    char longest[UAF_MOST_USERNAME + 1] = {0};
+    uint8_t key[UAF_KEY_ID_SIZE], holder[UAF_MIXED_SIZE];
+    memset(longest, 'a', UAF_MOST_USERNAME);
+    table.length = 0;
+    for (int i = 0; i < UAF_MOST_RECORDS; i++) {
+        memset(key, i + 1, sizeof key);
+        memset(holder, i / UAF_MOST_OWN, sizeof holder);
+        left = table;
+        add_record_of(&table, holder, key, longest, 0);
+    }
+    t = taking(holder, key);
+    expect(table.length == UAF_LEAST_TABLE, "the longest table");
+    is_withdrawn(&t, &table, &left, "a withdrawal from the longest table");
+}
+
+/* Directly after a Register that made a draft, it gives the table that the Register was given, byte for byte. */
+static void after_a_register(void)
+{
+    for (unsigned own = 0; own < UAF_MOST_OWN; own++) {
+        struct bytes command = {{0}, 0}, before = {{0}, 0}, registered = {{0}, 0};
+        stored_records(&before, own);
+        asking(&command, 0x3402, own % 2 == 0 ? NULL : firm, access_token, sizeof access_token);
+        expect(call(&command, UAF_VERIFIED, UAF_SHOWN_CONFIRMED, &before) == 0 && answer == UAF_DRAFT, "a Register to take back");
+        stretch(&registered, table_out, table_length);
+        const struct withdrawal t = taking(own % 2 == 0 ? mixed : mixed_with_firm, key_id);
+        is_withdrawn(&t, &registered, &before, "a withdrawal after a Register");
+    }
+}
+
+/* Each byte of the mixed token and of the KeyID is looked at. */
+static void every_byte_of_both(void)
+{
+    struct bytes table = {{0}, 0}, left = {{0}, 0};
+    uint8_t holder[UAF_MIXED_SIZE], key[UAF_KEY_ID_SIZE];
+    four_records(&table, &left, 0);
+    memcpy(holder, mixed, sizeof holder);
+    memcpy(key, key_id, sizeof key);
+    const struct withdrawal t = taking(holder, key);
+    for (size_t i = 0; i < UAF_MIXED_SIZE + UAF_KEY_ID_SIZE; i++) {
+        uint8_t *byte = i < UAF_MIXED_SIZE ? holder + i : key + i - UAF_MIXED_SIZE;
+        *byte ^= 0x80;
+        is_kept(&t, &table, UAF_REFUSED_WITHDRAWAL, "a withdrawal with another byte in mixed token or KeyID");
+        *byte ^= 0x80;
+    }
+    is_withdrawn(&t, &table, &left, "a withdrawal with these bytes");
+}
+
+/* What a record must be: the holder's, the newest of the holder's, and one that has not signed; each byte of its counter is looked at. */
+static void withdrawals_of_one_holder(void)
+{
+    struct bytes table = {{0}, 0}, left = {{0}, 0}, one_more = {{0}, 0};
+    uint8_t key[UAF_KEY_ID_SIZE];
+    const struct withdrawal own = taking(mixed, key_id), others = taking(mixed_with_firm, key_id), newest = taking(mixed, key);
+    static const unsigned counts[] = {1, 0x100, 0x10000, 0x1000000, 0xFFFFFFFF};
+    for (size_t i = 0; i < sizeof counts / sizeof *counts; i++) {
+        four_records(&table, &left, counts[i]);
+        is_kept(&own, &table, UAF_REFUSED_WITHDRAWAL, "a withdrawal of a key that has signed");
+    }
+    four_records(&table, &left, 0);
+    is_kept(&others, &table, UAF_REFUSED_WITHDRAWAL, "a withdrawal of another holder's record");
+    one_more = table;
+    memset(key, 0xEE, sizeof key);
+    add_record(&one_more, key, ann, 0);
+    is_kept(&own, &one_more, UAF_REFUSED_WITHDRAWAL, "a withdrawal of a record that is not the newest");
+    is_withdrawn(&newest, &one_more, &table, "a withdrawal of the newest record");
+    is_withdrawn(&own, &table, &left, "a withdrawal of the record that is now the newest");
+}
+
+/* The refusals with their lengths, each before all that come after it: every later one is there too. */
+static void withdrawals_refused(void)
+{
+    struct bytes none = {{0}, 0}, table = {{0}, 0}, left = {{0}, 0}, broken = {{0}, 0};
+    static const size_t sizes[] = {0, 1, 31, 33, 64}, rooms[] = {0, 1, UAF_LEAST_RESPONSE, UAF_LEAST_TABLE - 1};
+    uint8_t bytes[2 * UAF_MIXED_SIZE] = {0};
+    four_records(&table, &left, 0);
+    broken = table;
+    broken.length--;
+    struct withdrawal t = taking(mixed, key_id);
+    is_kept(&t, &broken, UAF_REFUSED_TABLE, "a withdrawal from a broken table");
+    is_kept(&t, &none, UAF_REFUSED_WITHDRAWAL, "a withdrawal from the table without records");
+    for (size_t i = 0; i < sizeof rooms / sizeof *rooms; i++) {
+        t = taking(mixed, key_id);
+        t.room = rooms[i];
+        is_kept(&t, &table, UAF_REFUSED_OUTPUT, "a withdrawal into a short output");
+        t.mixed_size = t.key_size = 31;
+        is_kept(&t, &broken, UAF_REFUSED_OUTPUT, "a withdrawal into a short output, with other faults");
+    }
+    for (size_t i = 0; i < sizeof sizes / sizeof *sizes; i++) {
+        t = taking(bytes, key_id);
+        t.mixed_size = sizes[i];
+        is_kept(&t, &table, UAF_REFUSED_LENT, "a mixed token of other than 32 bytes");
+        is_kept(&t, &broken, UAF_REFUSED_TABLE, "a mixed token of other than 32 bytes, and a broken table");
+        t = taking(mixed, bytes);
+        t.key_size = sizes[i];
+        is_kept(&t, &table, UAF_REFUSED_LENT, "a KeyID of other than 32 bytes");
+        is_kept(&t, &broken, UAF_REFUSED_TABLE, "a KeyID of other than 32 bytes, and a broken table");
+    }
+
+    /* no bytes: the pointer is not followed */
+    fill_outputs();
+    expect(
+        uaf_withdraw(NULL, 0, key_id, sizeof key_id, table.at, table.length, table_out, sizeof table_out, &table_length) == UAF_REFUSED_LENT
+            && uaf_withdraw(mixed, sizeof mixed, NULL, 0, table.at, table.length, table_out, sizeof table_out, &table_length)
+                == UAF_REFUSED_LENT
+            && uaf_withdraw(mixed, sizeof mixed, key_id, sizeof key_id, NULL, 0, table_out, sizeof table_out, &table_length)
+                == UAF_REFUSED_WITHDRAWAL
+            && uaf_withdraw(mixed, sizeof mixed, key_id, sizeof key_id, table.at, table.length, NULL, 0, &table_length) == UAF_REFUSED_OUTPUT
+            && all_untouched(),
+        "a withdrawal with NULL for an empty stretch");
+}
+
+/* Inputs may overlap: mixed token and KeyID are lent where they stand in the table, and as the same bytes. */
+static void lent_from_the_table(void)
+{
+    struct bytes table = {{0}, 0}, left = {{0}, 0}, none = {{0}, 0};
+    enum { KEY_ID_PLACE = 8, MIXED_PLACE = 44 }; /* in a record */
+    four_records(&table, &left, 0);
+    const uint8_t *third = table.at + (table.length / 4) * 2; /* the four have one length */
+    const struct withdrawal t = taking(third + MIXED_PLACE, third + KEY_ID_PLACE);
+    is_withdrawn(&t, &table, &left, "a withdrawal by what stands in the table");
+    table.length = 0;
+    add_record_of(&table, mixed, mixed, ann, 0);
+    const struct withdrawal alike = taking(mixed, mixed);
+    is_withdrawn(&alike, &table, &none, "a withdrawal by a KeyID that is the mixed token");
+}
+
 /* ---- usernames: well-formed UTF-8 by RFC 3629, or none */
 
 /* Two records of the caller's, of which the second has this name, and the list that a Sign gives for them. */
@@ -1590,6 +1785,7 @@ static void constants_and_names(void)
         {UAF_REFUSED_LENT, 4, "a lent result that this command or completion uses has a wrong length or number"},
         {UAF_REFUSED_BYTES, 5, "no draft of this kind, or no response"},
         {UAF_REFUSED_FIELD, 6, "a field or the number of key handles breaks a rule, or the command would be too long"},
+        {UAF_REFUSED_WITHDRAWAL, 7, "no record has both values, its counter is not 0, or it is not its holder's newest"},
     };
     static const struct named statuses[] = {
         {UAF_STATUS_OK, 0x00, "OK"},
@@ -1699,7 +1895,7 @@ static void constants_and_names(void)
     char version[32];
     snprintf(version, sizeof version, "%d.%d", UAF_TOKEN_MAJOR, UAF_TOKEN_MINOR);
     expect(strcmp(version, UAF_TOKEN_VERSION) == 0, "the version's numbers and its text");
-    expect(strcmp(version, "3.0") == 0, "the version");
+    expect(strcmp(version, "3.1") == 0, "the version");
 }
 
 int main(void)
@@ -1728,6 +1924,12 @@ int main(void)
     hashes();
     holders();
     contents();
+    withdraws();
+    after_a_register();
+    every_byte_of_both();
+    withdrawals_of_one_holder();
+    withdrawals_refused();
+    lent_from_the_table();
     usernames();
     examples();
     printf("header: %d checks, %s\n", checks,

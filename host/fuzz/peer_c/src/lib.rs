@@ -85,6 +85,30 @@ pub unsafe extern "C" fn peer_command(
 
 /// # Safety
 ///
+/// As `uaf_withdraw` in `uaf_token.h`.
+#[no_mangle]
+pub unsafe extern "C" fn peer_withdraw(
+    mixed: *const u8,
+    mixed_size: usize,
+    key_id: *const u8,
+    key_id_size: usize,
+    table: *const u8,
+    table_size: usize,
+    table_out: *mut u8,
+    table_out_size: usize,
+    table_length: *mut usize,
+) -> u32 {
+    let result = uaf_peer::withdraw(
+        slice::from_raw_parts(mixed, mixed_size),
+        slice::from_raw_parts(key_id, key_id_size),
+        slice::from_raw_parts(table, table_size),
+        slice::from_raw_parts_mut(table_out, table_out_size),
+    );
+    number(result, |length| *table_length = length)
+}
+
+/// # Safety
+///
 /// As `uaf_hash` in `uaf_token.h`.
 #[no_mangle]
 pub unsafe extern "C" fn peer_hash(

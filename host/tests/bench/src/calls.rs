@@ -10,6 +10,7 @@ pub const MOST_COMMAND: usize = 8192;
 
 pub enum Call {
     Command(Command),
+    Withdraw(Withdraw),
     Complete(Complete),
     SignedPart(Placed),
     ReadFields(Placed),
@@ -19,6 +20,14 @@ pub enum Call {
 
 pub struct Command {
     pub command: Placed,
+    pub key_id: Placed,
+    pub table: Placed,
+    /// How much of the table output is lent.
+    pub room: usize,
+}
+
+pub struct Withdraw {
+    pub mixed: Placed,
     pub key_id: Placed,
     pub table: Placed,
     /// How much of the table output is lent.
@@ -76,6 +85,7 @@ impl Call {
     pub fn settle(&mut self, round: usize) {
         let lent = match self {
             Call::Command(call) => vec![&mut call.command, &mut call.key_id, &mut call.table],
+            Call::Withdraw(call) => vec![&mut call.mixed, &mut call.key_id, &mut call.table],
             Call::Complete(call) => vec![&mut call.draft, &mut call.certificate],
             Call::SignedPart(response) | Call::ReadFields(response) => vec![response],
             Call::Write(call) => match &mut call.what {
@@ -171,6 +181,7 @@ impl Outputs {
     pub fn of(&mut self, call: &Call) -> Vec<&mut Placed> {
         match call {
             Call::Write(_) => vec![&mut self.command],
+            Call::Withdraw(_) => vec![&mut self.table],
             _ => vec![&mut self.response, &mut self.table],
         }
     }
@@ -188,6 +199,7 @@ impl Outputs {
 pub fn repeat(entries: &Entries, desk: &Desk, call: &Call, out: &mut Outputs, times: u32) -> u32 {
     match call {
         Call::Command(call) => commands(entries, desk, call, out, times),
+        Call::Withdraw(call) => withdrawals(entries, call, out, times),
         Call::Complete(call) => completions(entries, desk, call, out, times),
         Call::SignedPart(response) => {
             let (at, size) = (response.as_ptr(), response.len());
@@ -370,6 +382,30 @@ fn writings(entries: &Entries, call: &Write, out: &mut Outputs, times: u32) -> u
             (entries.write_open_settings)(command, room, length)
         }),
     }
+}
+
+/// Of its own, like `writings`.
+#[inline(never)]
+fn withdrawals(entries: &Entries, call: &Withdraw, out: &mut Outputs, times: u32) -> u32 {
+    let (mixed, mixed_size) = (call.mixed.as_ptr(), call.mixed.len());
+    let (key_id, key_id_size) = (call.key_id.as_ptr(), call.key_id.len());
+    let (table, table_size) = (call.table.as_ptr(), call.table.len());
+    let (table_out, room) = (out.table[..call.room].as_mut_ptr(), call.room);
+    let length = &mut out.table_length;
+    // Safety: as in `commands`.
+    again(times, || unsafe {
+        (entries.withdraw)(
+            mixed,
+            mixed_size,
+            key_id,
+            key_id_size,
+            table,
+            table_size,
+            table_out,
+            room,
+            length,
+        )
+    })
 }
 
 /// Of its own, like `writings`.

@@ -1,11 +1,11 @@
-//! What is measured: each command on tables of five sizes and four kinds, and on tables with names in other texts; commands that hash much; each
-//! completion, both calls of the reader, the writers of commands, and some refusals of each; and the hash.
+//! What is measured: each command on tables of five sizes and four kinds, and on tables with names in other texts; commands that hash much;
+//! withdrawals on the same tables; each completion, both calls of the reader, the writers of commands, and some refusals of each; and the hash.
 
 use crate::calls::{
-    repeat, repeat_mbedtls, Call, Command, Complete, Desk, Hash, Outputs, Write, Written,
+    repeat, repeat_mbedtls, Call, Command, Complete, Desk, Hash, Outputs, Withdraw, Write, Written,
     LEAST_TABLE, MOST_COMMAND,
 };
-use crate::data::{self, access_token, command, noise, Ids, Setting, Text};
+use crate::data::{self, access_token, command, holder_of, noise, Ids, Setting, Text, OWN};
 use crate::entries::{peer, token};
 use crate::placed::{Placed, Role};
 
@@ -18,8 +18,10 @@ pub struct Case {
 
 const OUTPUT: u32 = 1;
 const TABLE: u32 = 2;
+const LENT: u32 = 4;
 const BYTES: u32 = 5;
 const FIELD: u32 = 6;
+const WITHDRAWAL: u32 = 7;
 
 /// The holder of the first eight records, and one without any: the four of a full table are 0 to 3.
 const FIRST: usize = 0;
@@ -268,10 +270,96 @@ fn refused_commands() -> Vec<Case> {
     ]
 }
 
-/// What the peer writes as the response to a call.
-fn answer(desk: &Desk, call: &Call) -> Vec<u8> {
+/// A record's withdrawal, by its holder.
+fn withdraw_call(setting: &Setting, record: usize) -> Withdraw {
+    let caller = holder_of(record);
+    Withdraw {
+        mixed: Placed::new(&setting.ids.mixed(caller, caller), Role::Mixed),
+        key_id: Placed::new(&setting.ids.key_id(record), Role::KeyId),
+        table: Placed::new(&setting.table(caller), Role::Table),
+        room: LEAST_TABLE,
+    }
+}
+
+/// The withdrawal of a record that has not signed, of which it is made sure that it leaves all others.
+fn withdrawal(desk: &Desk, name: String, setting: &Setting, record: usize) -> Case {
+    let setting = setting.with_unsigned(record);
+    let case = served(name, Call::Withdraw(withdraw_call(&setting, record)));
+    let out = written_by_peer(desk, &case.call);
+    let others = setting.table_without(record, holder_of(record));
+    assert!(out.table[..out.table_length] == others, "{}", case.name);
+    case
+}
+
+/// Of the table's last record, and of the first holder's last where those of others stand behind it.
+fn withdrawals(desk: &Desk) -> Vec<Case> {
+    let mut cases = Vec::new();
+    for (said, setting) in settings() {
+        if let Some(last) = setting.records.checked_sub(1) {
+            let name = format!("Withdraw the last, {}", said);
+            cases.push(withdrawal(desk, name, &setting, last));
+        }
+    }
+    for (said, setting) in settings() {
+        if setting.records > OWN {
+            let name = format!("Withdraw, others behind, {}", said);
+            cases.push(withdrawal(desk, name, &setting, OWN - 1));
+        }
+    }
+    cases
+}
+
+/// Of the last of 32 records, each refused by one thing alone: before it is spoilt it is made sure that it would be done.
+fn refused_withdrawals(desk: &Desk) -> Vec<Case> {
+    const RECORDS: usize = 32;
+    let full = Setting::new(RECORDS, Ids::Random, SHORT);
+    let case = |what: &str, refusal, spoil: fn(&mut Withdraw)| {
+        let name = format!("withdraw: refused, {}", what);
+        let mut case = withdrawal(desk, name, &full, RECORDS - 1);
+        if let Call::Withdraw(call) = &mut case.call {
+            spoil(call);
+        }
+        Case { refusal, ..case }
+    };
+    vec![
+        case("nothing is the holder's", WITHDRAWAL, |call| {
+            let mixed = Ids::Random.mixed(NEWCOMER, NEWCOMER);
+            call.mixed = Placed::new(&mixed, Role::Mixed);
+        }),
+        case("it has signed", WITHDRAWAL, |call| {
+            let count = call.table.len() - 4;
+            call.table[count] = 1;
+        }),
+        // It changes places with the one before it.
+        case("it is not the newest", WITHDRAWAL, |call| {
+            let record = call.table.len() / RECORDS;
+            let two_last = call.table.len() - 2 * record;
+            call.table[two_last..].rotate_left(record);
+        }),
+        case("a KeyID one byte too short", LENT, |call| {
+            let short = call.key_id.len() - 1;
+            call.key_id = Placed::new(&call.key_id[..short], Role::KeyId);
+        }),
+        case("the last of 32 records broken", TABLE, |call| {
+            let last_tag = call.table.len() - 8;
+            call.table[last_tag] ^= 1;
+        }),
+        case("an output one byte too short", OUTPUT, |call| {
+            call.room -= 1;
+        }),
+    ]
+}
+
+/// What the peer writes in a call that is not refused.
+fn written_by_peer(desk: &Desk, call: &Call) -> Outputs {
     let mut out = Outputs::new();
     assert_eq!(repeat(&peer(), desk, call, &mut out, 1), 0);
+    out
+}
+
+/// What the peer writes as the response to a call.
+fn answer(desk: &Desk, call: &Call) -> Vec<u8> {
+    let out = written_by_peer(desk, call);
     out.response[..out.response_length].to_vec()
 }
 
@@ -473,11 +561,7 @@ fn unwritten(desk: &Desk) -> Vec<Case> {
         handles: Placed::new(&noise(HANDLE * 8 + 1, 8), Role::Handles),
         handle_sizes: [vec![HANDLE; 7], vec![HANDLE + 1]].concat(),
     };
-    let length = |what: Written| {
-        let mut out = Outputs::new();
-        assert_eq!(repeat(&peer(), desk, &write(what), &mut out, 1), 0);
-        out.command_length
-    };
+    let length = |what: Written| written_by_peer(desk, &write(what)).command_length;
     let fits = MOST_COMMAND - length(write_sign(Some(0), 0));
     let short = Write {
         room: length(write_sign(None, 8)) - 1,
@@ -524,6 +608,8 @@ pub fn all(desk: &Desk) -> Vec<Case> {
     cases.push(cut_name());
     cases.extend(much_hashed(desk));
     cases.extend(refused_commands());
+    cases.extend(withdrawals(desk));
+    cases.extend(refused_withdrawals(desk));
     for (name, call) in completions(desk) {
         cases.push(served(format!("complete: {}", name), call));
     }
@@ -576,6 +662,7 @@ impl Case {
                 response(&out.response[..out.response_length]),
                 Placed::new(&out.table[..out.table_length], Role::Table),
             ],
+            Call::Withdraw(_) => vec![Placed::new(&out.table[..out.table_length], Role::Table)],
             Call::Complete(_) => vec![response(&out.response[..out.response_length])],
             Call::Write(_) => vec![Placed::new(
                 &out.command[..out.command_length],

@@ -151,13 +151,23 @@ impl Text {
     }
 }
 
-/// A stored table, eight records to a holder, which is as many as one may have.
+/// How many records a holder has, which is as many as one may have.
+pub const OWN: usize = 8;
+
+/// Whose a record is, by its place in the table.
+pub fn holder_of(record: usize) -> usize {
+    record / OWN
+}
+
+/// A stored table, eight records to a holder.
 #[derive(Clone, Copy)]
 pub struct Setting {
     pub records: usize,
     pub ids: Ids,
     pub name_length: usize,
     pub text: Text,
+    /// The one record that has not signed, if there is one.
+    pub unsigned: Option<usize>,
 }
 
 impl Setting {
@@ -167,12 +177,19 @@ impl Setting {
             ids,
             name_length,
             text: Text::Ascii,
+            unsigned: None,
         }
     }
 
     /// The same with names in another text.
     pub fn written_in(self, text: Text) -> Self {
         Setting { text, ..self }
+    }
+
+    /// The same with one record that has not signed.
+    pub fn with_unsigned(self, record: usize) -> Self {
+        let unsigned = Some(record);
+        Setting { unsigned, ..self }
     }
 
     pub fn name(&self, record: usize) -> Vec<u8> {
@@ -186,12 +203,28 @@ impl Setting {
             .collect()
     }
 
+    /// The same table without one of its records.
+    pub fn table_without(&self, record: usize, caller: usize) -> Vec<u8> {
+        (0..self.records)
+            .filter(|i| *i != record)
+            .flat_map(|i| self.record(i, caller))
+            .collect()
+    }
+
+    fn count(&self, number: usize) -> u32 {
+        if self.unsigned == Some(number) {
+            0
+        } else {
+            number as u32 + 1
+        }
+    }
+
     fn record(&self, number: usize, caller: usize) -> Vec<u8> {
         let inner = [
             tlv(0x2E09, &self.ids.key_id(number)),
-            tlv(0x2805, &self.ids.mixed(number / 8, caller)),
+            tlv(0x2805, &self.ids.mixed(holder_of(number), caller)),
             tlv(0x2806, &self.name(number)),
-            tlv(0x2E0D, &(number as u32 + 1).to_le_bytes()),
+            tlv(0x2E0D, &self.count(number).to_le_bytes()),
         ];
         tlv(0x3802, &inner.concat())
     }

@@ -54,6 +54,17 @@ entries! {
         response_length: *mut usize,
         table_length: *mut usize,
     ) -> u32;
+    Withdraw = uaf_withdraw(
+        mixed: *const u8,
+        mixed_size: usize,
+        key_id: *const u8,
+        key_id_size: usize,
+        table: *const u8,
+        table_size: usize,
+        table_out: *mut u8,
+        table_out_size: usize,
+        table_length: *mut usize,
+    ) -> u32;
     Complete = uaf_complete(
         kind: u32,
         draft: *const u8,
@@ -157,6 +168,7 @@ entries! {
 #[derive(Clone, Copy)]
 pub struct Entries {
     pub command: Command,
+    pub withdraw: Withdraw,
     pub complete: Complete,
     pub signed_part: SignedPart,
     pub read_fields: ReadFields,
@@ -171,6 +183,7 @@ pub struct Entries {
 pub fn token() -> Entries {
     hidden(Entries {
         command: uaf_command,
+        withdraw: uaf_withdraw,
         complete: uaf_complete,
         signed_part: uaf_signed_part,
         read_fields: uaf_read_fields,
@@ -186,6 +199,7 @@ pub fn token() -> Entries {
 pub fn peer() -> Entries {
     hidden(Entries {
         command: peer_c::peer_command,
+        withdraw: peer_c::peer_withdraw,
         complete: peer_c::peer_complete,
         signed_part: peer_c::peer_signed_part,
         read_fields: peer_c::peer_read_fields,

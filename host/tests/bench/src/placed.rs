@@ -25,6 +25,7 @@ pub enum Role {
     First,
     Second,
     Joined,
+    Mixed,
 }
 
 impl Role {

@@ -52,6 +52,14 @@ pub struct CommandCall {
 }
 
 #[derive(Clone, PartialEq, Eq)]
+pub struct WithdrawCall {
+    pub mixed: Vec<u8>,
+    pub key_id: Vec<u8>,
+    pub table: Vec<u8>,
+    pub table_out_size: usize,
+}
+
+#[derive(Clone, PartialEq, Eq)]
 pub struct CompleteCall {
     pub kind: u32,
     pub draft: Vec<u8>,
@@ -150,6 +158,16 @@ impl Display for CommandCall {
         writeln!(f, "  nonce               {}", Hex(&lent.nonce))?;
         writeln!(f, "  table               {}", Hex(&self.table))?;
         writeln!(f, "  response_size       {}", self.response_size)?;
+        writeln!(f, "  table_out_size      {}", self.table_out_size)
+    }
+}
+
+impl Display for WithdrawCall {
+    fn fmt(&self, f: &mut Formatter) -> fmt::Result {
+        writeln!(f, "uaf_withdraw")?;
+        writeln!(f, "  mixed               {}", Hex(&self.mixed))?;
+        writeln!(f, "  key_id              {}", Hex(&self.key_id))?;
+        writeln!(f, "  table               {}", Hex(&self.table))?;
         writeln!(f, "  table_out_size      {}", self.table_out_size)
     }
 }

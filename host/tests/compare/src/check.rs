@@ -2,13 +2,14 @@
 //! answer and all that they leave.
 
 use crate::answered;
-use crate::calls::{CommandCall, CompleteCall, Expect, Hex, WriteCall};
+use crate::calls::{CommandCall, CompleteCall, Expect, Hex, WithdrawCall, WriteCall};
 use crate::outcome;
 use crate::output::Output;
 use crate::properties;
 use crate::report::{self, Counts, Entry, Outcome};
 use crate::rng::Rng;
 use crate::tlv::Kind;
+use crate::withdrawn;
 use std::fmt::Debug;
 use std::ops::Range;
 use std::panic::{catch_unwind, AssertUnwindSafe};
@@ -29,6 +30,17 @@ pub struct Wrote {
     pub draft: bool,
     pub response: Vec<u8>,
     pub table: Vec<u8>,
+}
+
+impl Wrote {
+    /// What a withdrawal wrote, which has no response.
+    pub fn table_alone(table: Vec<u8>) -> Wrote {
+        Wrote {
+            draft: false,
+            response: Vec::new(),
+            table,
+        }
+    }
 }
 
 /// What the reader's two calls gave.
@@ -276,6 +288,74 @@ impl Checker {
                 let response = show(&self.response, left.1.response_length);
                 let table = show(&self.table, left.1.table_length);
                 text += &format!("  {}'s response  {}\n", whose, response);
+                text += &format!("  {}'s table_out {}\n", whose, table);
+            }
+        }
+        text
+    }
+
+    /// A withdrawal. Gives the table left or its refusal.
+    pub fn withdraw(
+        &mut self,
+        call: &WithdrawCall,
+        expect: Expect,
+    ) -> Checked<Result<Vec<u8>, u32>> {
+        let kept = call.clone();
+        let (token, peer) = self
+            .run_withdrawal(call)
+            .or_else(|what| fail(what, call.to_string()))?;
+        let (refusal, length) = token;
+        let fault = differ(&token, &peer, expect)
+            .or_else(|| {
+                let written = if refusal == 0 { length } else { 0 };
+                self.table.fault("table_out", written)
+            })
+            .or_else(|| changed(kept != *call));
+        if let Some(what) = fault {
+            return fail(what, self.show_withdrawal(call, &token, &peer));
+        }
+        let answer = match refusal {
+            0 => Ok(self.table.written(length).to_vec()),
+            _ => Err(refusal),
+        };
+        match withdrawn::of_withdrawal(&mut self.counts, call, &answer) {
+            Err(what) => fail(what, self.show_withdrawal(call, &token, &peer)),
+            Ok(()) => Ok(answer),
+        }
+    }
+
+    fn run_withdrawal(
+        &mut self,
+        call: &WithdrawCall,
+    ) -> Result<(Left<usize>, Left<usize>), String> {
+        let WithdrawCall {
+            mixed,
+            key_id,
+            table,
+            table_out_size,
+        } = call;
+        let before = self.rng.next() as usize;
+        self.table.prepare(&mut self.rng, *table_out_size);
+        let mut length = before;
+        let refusal = raw::withdraw(mixed, key_id, table, self.table.token(), &mut length);
+        let table_out = self.table.peer();
+        let by_peer = || uaf_peer::withdraw(mixed, key_id, table, table_out);
+        let peer = as_entry(before, by_peer, |length| length)?;
+        Ok(((refusal, length), peer))
+    }
+
+    fn show_withdrawal(
+        &self,
+        call: &WithdrawCall,
+        token: &Left<usize>,
+        peer: &Left<usize>,
+    ) -> String {
+        let mut text = call.to_string() + &both(token, peer);
+        let of_token: ShowBytes = Output::token_hex;
+        let of_peer: ShowBytes = Output::peer_hex;
+        for (whose, left, show) in [("token", token, of_token), ("peer", peer, of_peer)] {
+            if left.0 == 0 {
+                let table = show(&self.table, left.1);
                 text += &format!("  {}'s table_out {}\n", whose, table);
             }
         }

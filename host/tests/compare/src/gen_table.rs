@@ -113,7 +113,8 @@ fn counter(rng: &mut Rng) -> u32 {
     }
 }
 
-fn record(rng: &mut Rng, records: &[Record], mixed: [u8; 32]) -> Record {
+/// A record beside these.
+pub fn record(rng: &mut Rng, records: &[Record], mixed: [u8; 32]) -> Record {
     Record {
         key_id: fresh_key_id(rng, records),
         mixed,
@@ -122,7 +123,7 @@ fn record(rng: &mut Rng, records: &[Record], mixed: [u8; 32]) -> Record {
     }
 }
 
-fn own_of(records: &[Record], mixed: &[u8; 32]) -> usize {
+pub fn own_of(records: &[Record], mixed: &[u8; 32]) -> usize {
     records.iter().filter(|r| r.mixed == *mixed).count()
 }
 

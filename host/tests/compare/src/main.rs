@@ -30,6 +30,7 @@ mod nests;
 mod outcome;
 mod output;
 mod properties;
+mod registered;
 mod report;
 mod rng;
 mod scene;
@@ -37,6 +38,8 @@ mod singles;
 mod sweeps;
 mod tlv;
 mod traces;
+mod withdrawals;
+mod withdrawn;
 mod writes;
 
 use check::{Checked, Checker};
@@ -93,7 +96,9 @@ fn options() -> Options {
 fn case(checker: &mut Checker, seed: u64, case: u64) -> Checked<()> {
     let rng = &mut Rng::new(seed, case);
     checker.start(seed, case);
-    match rng.weighed(&[840, 400, 20, 240, 100, 400, 10, 1, 1, 1, 1, 300, 60, 40]) {
+    match rng.weighed(&[
+        840, 400, 20, 240, 100, 400, 10, 1, 1, 1, 1, 300, 60, 40, 200, 80, 1,
+    ]) {
         0 => singles::command(rng, checker),
         1 => singles::damaged_command(rng, checker),
         2 => traces::afternoon(rng, checker),
@@ -107,7 +112,10 @@ fn case(checker: &mut Checker, seed: u64, case: u64) -> Checked<()> {
         10 => sweeps::response(rng, checker),
         11 => writes::writing(rng, checker),
         12 => writes::forms(rng, checker),
-        _ => hashes::parted(rng, checker),
+        13 => hashes::parted(rng, checker),
+        14 => withdrawals::withdrawal(rng, checker),
+        15 => withdrawals::damaged(rng, checker),
+        _ => sweeps::withdrawal(rng, checker),
     }
 }
 

@@ -3,6 +3,7 @@
 use crate::gen_response;
 use crate::report::{completion_name, name_of, Class, Entry, Outcome, OTHER, STRETCHES};
 use crate::tlv::Kind;
+use crate::withdrawn;
 
 /// What a command can answer besides a status alone, as a command and when it is read.
 fn answers(kind: Kind, read: bool) -> Vec<Outcome> {
@@ -20,7 +21,7 @@ fn answers(kind: Kind, read: bool) -> Vec<Outcome> {
 }
 
 /// The faults of which each must have been the only one of some call.
-pub const FAULTS: [&str; 128] = [
+pub const FAULTS: [&str; 140] = [
     "output: response too short",
     "output: table too short",
     "table: over 32 records",
@@ -149,6 +150,18 @@ pub const FAULTS: [&str; 128] = [
     "writer: output one byte too short",
     "writer: output too short",
     "writer: output empty",
+    "withdrawal: output too short",
+    "withdrawal: mixed token's length",
+    "withdrawal: KeyID's length",
+    "withdrawal: both lengths",
+    "withdrawal: another holder's KeyID",
+    "withdrawal: nearly the KeyID",
+    "withdrawal: nobody's KeyID",
+    "withdrawal: another holder's mixed token",
+    "withdrawal: nearly the mixed token",
+    "withdrawal: a newer one since",
+    "withdrawal: an older one",
+    "withdrawal: counted",
 ];
 
 /// Every refusal, status and other answer of every entry.
@@ -198,6 +211,15 @@ pub fn classes() -> Vec<Class> {
         add(Entry::SignedPart, name_of(kind), &[Outcome::Part]);
     }
     add(Entry::Command, OTHER, &refusals(&[1, 2, 3]));
+    add(
+        Entry::Withdraw,
+        withdrawn::NOT_LOOKED_FOR,
+        &refusals(&[1, 2, 4]),
+    );
+    for reason in withdrawn::REASONS {
+        add(Entry::Withdraw, reason, &refusals(&[7]));
+    }
+    add(Entry::Withdraw, withdrawn::NEWEST, &[Outcome::Withdrawn]);
     for stretches in STRETCHES {
         add(Entry::Hash, stretches, &[Outcome::Hash]);
     }

@@ -1,5 +1,5 @@
 //! What document 01 says of every call and needs no second implementation. What it says of commands is
-//! in `answered`.
+//! in `answered`, of withdrawals in `withdrawn`.
 
 use crate::check::Read;
 use crate::outcome::{number_at, status_of};
@@ -18,6 +18,10 @@ pub const READ_BACK: &str = "the signed stretch of a completed response is the d
 pub const DRAFT_ALONE: &str = "a draft alone is no response";
 pub const FIELDS: &str = "fields lie one after another inside the response";
 pub const APART: &str = "other holders' calls change nothing for a holder";
+pub const APART_WITHDRAWN: &str = "a withdrawal is answered alike in two afternoons";
+pub const WITHDRAWN: &str = "a withdrawal takes the one record and leaves the rest";
+pub const TAKEN_BACK: &str = "directly after a Register it gives the former table";
+pub const STILL_TAKEN: &str = "strangers' calls since a Register do not hinder it";
 pub const BY_TOKEN: &str = "a holder without an AppID meets its record";
 pub const BY_BOTH: &str = "a holder with an AppID meets its record";
 pub const OWN_ALONE: &str = "without handles a Sign goes by the holder's records alone";
@@ -41,7 +45,7 @@ pub const LEAST_FORM: &str = "a form is its own form, and no command of it is sh
 pub const SAME_EFFECT: &str = "a command and its form have the same effect";
 pub const WRITTEN_FORM: &str = "a form is what is written of its fields";
 
-pub const ALL: [&str; 32] = [
+pub const ALL: [&str; 36] = [
     REFUSAL,
     KEPT,
     APPENDED,
@@ -52,6 +56,10 @@ pub const ALL: [&str; 32] = [
     DRAFT_ALONE,
     FIELDS,
     APART,
+    APART_WITHDRAWN,
+    WITHDRAWN,
+    TAKEN_BACK,
+    STILL_TAKEN,
     BY_TOKEN,
     BY_BOTH,
     OWN_ALONE,

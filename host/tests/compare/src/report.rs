@@ -9,6 +9,7 @@ use std::fmt::{self, Display, Formatter};
 #[derive(Clone, Copy, PartialEq, Eq, PartialOrd, Ord, Debug)]
 pub enum Entry {
     Command,
+    Withdraw,
     Complete,
     SignedPart,
     ReadFields,
@@ -37,6 +38,8 @@ pub enum Outcome {
     /// A command.
     Written,
     Hash,
+    /// A record is gone.
+    Withdrawn,
 }
 
 /// The entry, what it was given and what it answered.
@@ -51,6 +54,7 @@ impl Display for Entry {
     fn fmt(&self, f: &mut Formatter) -> fmt::Result {
         f.pad(match self {
             Entry::Command => "uaf_command",
+            Entry::Withdraw => "uaf_withdraw",
             Entry::Complete => "uaf_complete",
             Entry::SignedPart => "uaf_signed_part",
             Entry::ReadFields => "uaf_read_fields",
@@ -76,6 +80,7 @@ impl Display for Outcome {
             Outcome::NoPart => "no signed structure".into(),
             Outcome::Written => "command".into(),
             Outcome::Hash => "hash".into(),
+            Outcome::Withdrawn => "withdrawn".into(),
         };
         f.pad(&text)
     }

@@ -15,13 +15,13 @@ use crate::scene::Scene;
 use crate::tlv::{self, Kind};
 
 /// The names of the faults in a call.
-type Faults = Vec<&'static str>;
+pub type Faults = Vec<&'static str>;
 
 pub fn some_kind(rng: &mut Rng) -> Kind {
     Kind::ALL[rng.weighed(&[8, 30, 40, 15, 7])]
 }
 
-fn enough(rng: &mut Rng, least: usize) -> usize {
+pub fn enough(rng: &mut Rng, least: usize) -> usize {
     match rng.below(4) {
         0 => least + 1,
         1 => least + rng.below(2000),
@@ -29,7 +29,7 @@ fn enough(rng: &mut Rng, least: usize) -> usize {
     }
 }
 
-fn short(rng: &mut Rng, least: usize) -> usize {
+pub fn short(rng: &mut Rng, least: usize) -> usize {
     match rng.below(4) {
         0 => 0,
         1 => rng.below(least),
@@ -166,7 +166,7 @@ fn damage_command(rng: &mut Rng, kind: Kind, command: &mut Vec<u8>, table: &[u8]
     }
 }
 
-fn damage_table(rng: &mut Rng, table: &mut Vec<u8>) {
+pub fn damage_table(rng: &mut Rng, table: &mut Vec<u8>) {
     if rng.one_in(12) {
         *table = damage::noise(rng, tlv::USERNAME_AND_KEYHANDLE);
     } else {

@@ -1,6 +1,6 @@
 //! Sweeps: the bytes of one right call with each byte changed in turn, and cut at each place.
 
-use crate::calls::{CommandCall, Expect};
+use crate::calls::{CommandCall, Expect, WithdrawCall, LEAST_TABLE};
 use crate::check::{Checked, Checker};
 use crate::follow;
 use crate::gen_draft::{self, REGISTRATION, SIGN};
@@ -57,16 +57,22 @@ fn short_holder(rng: &mut Rng) -> Holder {
     }
 }
 
-/// A call on a table of one or two records with short names, of which the caller has the first.
-fn small_call(rng: &mut Rng) -> CommandCall {
+/// One or two records with short names, of which the holder has the first.
+fn small_table(rng: &mut Rng, holder: &Holder) -> Vec<Record> {
     let number = rng.between(1, 2);
-    let holder = short_holder(rng);
-    let mut records: Vec<Record> = gen_table::records(rng, std::slice::from_ref(&holder), number);
+    let mut records = gen_table::records(rng, std::slice::from_ref(holder), number);
     for record in &mut records {
         let length = rng.between(1, 4);
         record.name = gen_name::of_length(rng, length);
     }
     records[0].mixed = holder.mixed();
+    records
+}
+
+/// A call on a small table.
+fn small_call(rng: &mut Rng) -> CommandCall {
+    let holder = short_holder(rng);
+    let records = small_table(rng, &holder);
     let scene = Scene::new(records, holder);
     let kind = singles::some_kind(rng);
     loop {
@@ -94,6 +100,52 @@ pub fn table(rng: &mut Rng, checker: &mut Checker) -> Checked<()> {
     for bytes in both(rng, &call.table) {
         call.table = bytes;
         checker.command(&call, Expect::Anything).map(drop)?;
+    }
+    Ok(())
+}
+
+/// A withdrawal of the last record of a small table.
+fn small_withdrawal(rng: &mut Rng) -> WithdrawCall {
+    let holder = short_holder(rng);
+    let mut records = small_table(rng, &holder);
+    let last = records.last_mut().expect("at least one");
+    last.counter = 0;
+    WithdrawCall {
+        mixed: last.mixed.to_vec(),
+        key_id: last.key_id.to_vec(),
+        table: gen_table::encode(&records),
+        table_out_size: LEAST_TABLE,
+    }
+}
+
+/// A value with each byte changed, which is no record's, and cut at each place; each with its refusal.
+fn wrong_values(rng: &mut Rng, value: &[u8]) -> Vec<(Vec<u8>, Expect)> {
+    let changed = changed(rng, value).into_iter();
+    let changed = changed.map(|other| (other, Expect::Refusal(7)));
+    let cut = cut(value).into_iter();
+    changed
+        .chain(cut.map(|short| (short, Expect::Refusal(4))))
+        .collect()
+}
+
+/// Each byte of the table, the mixed token and the KeyID of a withdrawal.
+pub fn withdrawal(rng: &mut Rng, checker: &mut Checker) -> Checked<()> {
+    let right = small_withdrawal(rng);
+    checker.withdraw(&right, Expect::Served).map(drop)?;
+    let mut call = right.clone();
+    for bytes in both(rng, &right.table) {
+        call.table = bytes;
+        checker.withdraw(&call, Expect::Anything).map(drop)?;
+    }
+    call = right.clone();
+    for (bytes, expect) in wrong_values(rng, &right.mixed) {
+        call.mixed = bytes;
+        checker.withdraw(&call, expect).map(drop)?;
+    }
+    call = right.clone();
+    for (bytes, expect) in wrong_values(rng, &right.key_id) {
+        call.key_id = bytes;
+        checker.withdraw(&call, expect).map(drop)?;
     }
     Ok(())
 }

@@ -1,7 +1,7 @@
 //! Whole afternoons: several holders' calls, each given the table that the last one left.
 
-use crate::apart::{self, Step};
-use crate::calls::{CommandCall, Expect, LEAST_RESPONSE, LEAST_TABLE};
+use crate::apart::{self, Call, Step};
+use crate::calls::{CommandCall, Expect, WithdrawCall, LEAST_RESPONSE, LEAST_TABLE};
 use crate::check::{Checked, Checker, Read, Wrote};
 use crate::damage;
 use crate::follow;
@@ -10,10 +10,12 @@ use crate::gen_command;
 use crate::gen_holder::{self, Holder};
 use crate::gen_lent;
 use crate::gen_table::{self, decode};
+use crate::registered::Registered;
 use crate::rng::Rng;
 use crate::scene::Scene;
 use crate::singles;
 use crate::tlv::{self, Child, Kind};
+use crate::withdrawals;
 
 /// A name that a holder may pick from the list it got.
 struct Choice {
@@ -27,6 +29,7 @@ struct Afternoon {
     fresh: bool,
     table: Vec<u8>,
     choice: Option<Choice>,
+    registered: Registered,
     steps: Vec<Step>,
 }
 
@@ -44,6 +47,7 @@ impl Afternoon {
             fresh: rng.percent(60),
             table,
             choice: None,
+            registered: Registered::default(),
             steps: Vec::new(),
         }
     }
@@ -90,8 +94,45 @@ fn spoil(rng: &mut Rng, call: &mut CommandCall) {
     }
 }
 
-/// The next call. Mostly the fingerprint is verified, so that the table comes to life.
-fn next_call(rng: &mut Rng, afternoon: &mut Afternoon) -> CommandCall {
+/// A withdrawal, mostly of what was registered and since then left alone by its holder.
+fn next_withdrawal(rng: &mut Rng, afternoon: &Afternoon) -> WithdrawCall {
+    let scene = afternoon.scene(rng);
+    let (mixed, key_id) = match afternoon.registered.some(rng) {
+        Some(values) if rng.percent(70) => values,
+        _ => (scene.holder.mixed(), scene.key_id(rng)),
+    };
+    let mut call = WithdrawCall {
+        mixed: mixed.to_vec(),
+        key_id: key_id.to_vec(),
+        table: afternoon.table.clone(),
+        table_out_size: singles::enough(rng, LEAST_TABLE),
+    };
+    match rng.below(25) {
+        0 => call.table_out_size = LEAST_TABLE - 1,
+        1 => {
+            withdrawals::spoil_lengths(rng, &mut call);
+        }
+        _ => {}
+    }
+    call
+}
+
+/// The next call; a withdrawal comes more often directly after a Register.
+fn next_call(rng: &mut Rng, afternoon: &mut Afternoon) -> Call {
+    let share = if afternoon.registered.is_last() {
+        20
+    } else {
+        8
+    };
+    if rng.percent(share) {
+        Call::Withdrawal(next_withdrawal(rng, afternoon))
+    } else {
+        Call::Command(next_command(rng, afternoon))
+    }
+}
+
+/// Mostly the fingerprint is verified, so that the table comes to life.
+fn next_command(rng: &mut Rng, afternoon: &mut Afternoon) -> CommandCall {
     let scene = afternoon.scene(rng);
     let choice = afternoon.choice.take();
     let mut call = match choice {
@@ -138,6 +179,33 @@ fn choice_of(rng: &mut Rng, call: &CommandCall, wrote: &Wrote, read: &Read) -> O
     Some(Choice { holder, key_id })
 }
 
+/// Makes a command; its draft is completed, its response read.
+fn make_command(
+    rng: &mut Rng,
+    checker: &mut Checker,
+    afternoon: &mut Afternoon,
+    call: &CommandCall,
+) -> Checked<Result<Wrote, u32>> {
+    let answer = checker.command(call, Expect::Anything)?;
+    if let Ok(wrote) = &answer {
+        if let Some(read) = follow::follow(rng, checker, wrote)? {
+            afternoon.choice = choice_of(rng, call, wrote, &read);
+        }
+    }
+    Ok(answer)
+}
+
+/// Makes a withdrawal, of which more is known where it is of what was registered.
+fn make_withdrawal(
+    checker: &mut Checker,
+    afternoon: &Afternoon,
+    call: &WithdrawCall,
+) -> Checked<Result<Wrote, u32>> {
+    let answer = checker.withdraw(call, Expect::Anything)?;
+    afternoon.registered.check(checker, call, &answer)?;
+    Ok(answer.map(Wrote::table_alone))
+}
+
 /// An afternoon of 5 to 200 calls. Drafts are completed and responses read. At the end one holder's
 /// calls are made again without the others'.
 pub fn afternoon(rng: &mut Rng, checker: &mut Checker) -> Checked<()> {
@@ -150,14 +218,16 @@ pub fn afternoon(rng: &mut Rng, checker: &mut Checker) -> Checked<()> {
     };
     for _ in 0..number {
         let call = next_call(rng, &mut afternoon);
-        let answer = checker.command(&call, Expect::Anything)?;
+        let answer = match &call {
+            Call::Command(call) => make_command(rng, checker, &mut afternoon, call)?,
+            Call::Withdrawal(call) => make_withdrawal(checker, &afternoon, call)?,
+        };
         if let Ok(wrote) = &answer {
-            if let Some(read) = follow::follow(rng, checker, wrote)? {
-                afternoon.choice = choice_of(rng, &call, wrote, &read);
-            }
             afternoon.table = wrote.table.clone();
         }
-        afternoon.steps.push(Step::new(call, answer));
+        let step = Step::new(call, answer);
+        afternoon.registered.note(&step);
+        afternoon.steps.push(step);
     }
     if from_empty {
         let holder = &afternoon.holders[rng.below(afternoon.holders.len())];

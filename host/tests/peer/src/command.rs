@@ -232,6 +232,6 @@ fn deregister(params: &Params, table: &Table, out: &mut Outputs) -> Result<Writt
         return Err(Status::AccessDenied);
     }
     write_response(Kind::Deregister, Status::Ok, |_| {}, &mut out.answer);
-    table.write_without(gone, &mut out.table);
+    table.write_without(table.records().filter(gone), &mut out.table);
     Ok(Written::Response)
 }

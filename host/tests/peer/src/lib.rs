@@ -25,6 +25,7 @@ mod sha256;
 mod table;
 mod tlv;
 mod value;
+mod withdraw;
 mod writer;
 
 pub use command::command;
@@ -33,7 +34,8 @@ pub use form::form_of;
 pub use reader::{read_fields, read_rows, signed_part, Fields, Heading, MOST_FIELDS};
 pub use sha256::hash;
 pub use tlv::Field;
-pub use value::{command_by_value, load, store, RecordValue, TableValue};
+pub use value::{command_by_value, load, store, withdraw_by_value, RecordValue, TableValue};
+pub use withdraw::withdraw;
 pub use writer::{
     write_deregister, write_get_info, write_open_settings, write_register, write_sign,
 };
@@ -90,6 +92,8 @@ pub enum Refusal {
     Bytes = 5,
     /// A field that a command is to be written of breaks its rule, or the command would be too long.
     Field = 6,
+    /// No record has both values, its counter is not 0, or it is not its holder's newest.
+    Withdrawal = 7,
 }
 
 /// What a command wrote into the response output, with its length.

@@ -123,6 +123,13 @@ impl<'a> Table<'a> {
         self.records().filter(move |record| record.mixed == mixed)
     }
 
+    /// "its holder's newest": of the records with this mixed token the last, looked for from the end.
+    pub(crate) fn newest(&self, mixed: &Bytes32) -> Option<Record<'a>> {
+        let stored = self.mixed.get(..self.count)?;
+        let place = stored.iter().rposition(|&stored| stored == mixed)?;
+        self.records().nth(place)
+    }
+
     pub(crate) fn count_own(&self, mixed: &Bytes32) -> usize {
         let stored = self.mixed.get(..self.count).unwrap_or_default();
         stored.iter().filter(|&&stored| stored == mixed).count()
@@ -158,11 +165,16 @@ impl<'a> Table<'a> {
         out.patch(record.end.saturating_sub(counter.len()), &counter);
     }
 
-    /// Writes the table without some records: "Removal closes the gap", the rest keep their order.
-    pub(crate) fn write_without(&self, gone: impl Fn(&Record) -> bool, out: &mut Writer) {
+    /// Writes the table without some of its records, which are given in their order: "Removal closes the
+    /// gap", the rest keep theirs.
+    pub(crate) fn write_without<'r>(
+        &self,
+        gone: impl Iterator<Item = Record<'r>>,
+        out: &mut Writer,
+    ) {
         // Neighbours that stay are written together; here the next of them start.
         let mut kept = 0;
-        for record in self.records().filter(gone) {
+        for record in gone {
             let start = record.end - record.stored.len();
             if kept < start {
                 out.put(self.stored.get(kept..start).unwrap_or_default());

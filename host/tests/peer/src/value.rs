@@ -1,9 +1,10 @@
-//! The key table by value: a command on it, and the ways to and from its stored form.
+//! The key table by value: a command and a withdrawal on it, and the ways to and from its stored form.
 
 use crate::command::command;
 use crate::numbers::{LEAST_RESPONSE, LEAST_TABLE, MOST_NAME, MOST_RECORDS};
 use crate::table::{write_record, Table};
 use crate::tlv::Writer;
+use crate::withdraw::Values;
 use crate::{Answer, Lent, Refusal};
 
 /// "A record has a KeyID of 32 bytes, a mixed token of 32 bytes, a username of 1 to 128 bytes and a
@@ -111,6 +112,36 @@ pub fn command_by_value(
         *table = left;
     }
     Ok(served.answer)
+}
+
+/// Takes back a registration, as [`withdraw`](crate::withdraw) does, from a table by value, which
+/// becomes the table left.
+///
+/// # Errors
+///
+/// The first that applies of [`Refusal::Table`], [`Refusal::Lent`] and [`Refusal::Withdrawal`]; the
+/// table is then as it came.
+pub fn withdraw_by_value(
+    mixed: &[u8],
+    key_id: &[u8],
+    table: &mut TableValue,
+) -> Result<(), Refusal> {
+    stored_form(table, &mut [0; LEAST_TABLE]).ok_or(Refusal::Table)?;
+    let lent = Values::of(mixed, key_id).ok_or(Refusal::Lent)?;
+    let records = table.records.get_mut(..table.count).unwrap_or_default();
+    let newest = records
+        .iter()
+        .rposition(|record| record.mixed == *lent.mixed);
+    let since = newest.and_then(|newest| records.get_mut(newest..));
+    let since = since.unwrap_or_default();
+    match since.first_mut() {
+        Some(newest) if lent.fit(&newest.key_id, newest.counter) => *newest = NO_RECORD,
+        _ => return Err(Refusal::Withdrawal),
+    }
+    // Those after it close the gap, and what is left of it is no part of the table.
+    since.rotate_left(1);
+    table.count -= 1;
+    Ok(())
 }
 
 /// The stored form, if no rule is broken. By value a count or a name's length can be greater than

@@ -4,7 +4,7 @@
 mod common;
 
 use common::*;
-use uaf_peer::{complete, read_fields, signed_part, Lent, Refusal};
+use uaf_peer::{complete, load, read_fields, signed_part, withdraw, Lent, RecordValue, Refusal};
 
 /// A linear congruential generator: the same list on every run.
 struct Dice(u64);
@@ -132,11 +132,45 @@ fn any_damage() {
     }
 }
 
-/// A holder's answers are the same whatever strangers do between its calls, also with its KeyIDs, and
-/// also where a stranger has its access token with an AppID.
-#[test]
-fn two_afternoons() {
-    let own = [
+/// A call of the holder's.
+enum Own {
+    Command(Vec<u8>),
+    /// A withdrawal of this KeyID.
+    Withdrawal(u8),
+}
+
+/// A command's answer or a withdrawal's, and the table left.
+fn answered(own: &Own, lent: &Lent, table: &[u8]) -> (Result<Option<Got>, Refusal>, Vec<u8>) {
+    match own {
+        Own::Command(bytes) => {
+            let (got, left) = run(bytes, lent, table).unwrap();
+            (Ok(Some(got)), left)
+        }
+        Own::Withdrawal(key_id) => match withdrawn(OWN, &[*key_id; 32], table) {
+            Ok(left) => (Ok(None), left),
+            Err(refusal) => (Err(refusal), table.to_vec()),
+        },
+    }
+}
+
+/// A holder's withdrawal.
+fn withdrawn(holder: u8, key_id: &[u8; 32], table: &[u8]) -> Result<Vec<u8>, Refusal> {
+    let mut left = [0; 6912];
+    let length = withdraw(&mixed(holder), key_id, table, &mut left)?;
+    Ok(left[..length].to_vec())
+}
+
+/// The holder's records in a table.
+fn own_records(table: &[u8]) -> Vec<RecordValue> {
+    let table = load(table).unwrap();
+    let records = &table.records[..table.count];
+    let own = records.iter().filter(|record| record.mixed == mixed(OWN));
+    own.copied().collect()
+}
+
+/// Each Register is lent its place in the list.
+fn own_calls() -> Vec<Own> {
+    let commands = [
         with(REGISTER, &[]),
         with(REGISTER, &[]),
         with(SIGN, &[]),
@@ -148,27 +182,50 @@ fn two_afternoons() {
         with(DEREGISTER, &[]),
         with(SIGN, &[]),
     ];
+    let mut own: Vec<Own> = commands.into_iter().map(Own::Command).collect();
+    own.extend([
+        Own::Command(with(REGISTER, &[])),
+        Own::Command(with(REGISTER, &[])),
+        Own::Withdrawal(10),
+        Own::Withdrawal(11),
+        Own::Command(with(SIGN, &[])),
+        Own::Withdrawal(10),
+        Own::Command(with(REGISTER, &[])),
+        Own::Withdrawal(16),
+        Own::Withdrawal(16),
+    ]);
+    own
+}
+
+/// A holder's answers and records are the same whatever strangers do between its calls, also with its
+/// KeyIDs, and also where a stranger has its access token with an AppID.
+#[test]
+fn two_afternoons() {
+    let own = own_calls();
     let afternoon = |strangers: &mut dyn FnMut(Vec<u8>) -> Vec<u8>| {
         let mut table = vec![];
         let mut answers = vec![];
-        for (n, bytes) in own.iter().enumerate() {
+        for (n, call) in own.iter().enumerate() {
             table = strangers(table);
             let key_id = [n as u8; 32];
             let holder = Lent {
                 key_id: &key_id,
                 ..lent()
             };
-            let (got, left) = run(bytes, &holder, &table).unwrap();
-            answers.push(got);
+            let (answer, left) = answered(call, &holder, &table);
+            answers.push((answer, own_records(&left)));
             table = left;
         }
         answers
     };
     let alone = afternoon(&mut |table| table);
+    let refused = |(answer, _): &&(Result<_, Refusal>, _)| *answer == Err(Refusal::Withdrawal);
+    assert_eq!(alone.iter().filter(refused).count(), 3);
 
     let mut dice = Dice(3);
-    let mut calls = 0;
+    let mut calls = 0u16;
     let mut drafts = 0;
+    let mut withdrawals = 0;
     let crowded = afternoon(&mut |mut table| {
         for _ in 0..20 {
             let whole = any_command(&mut dice);
@@ -181,7 +238,7 @@ fn two_afternoons() {
             // A KeyID that no earlier call was lent.
             calls += 1;
             let mut key_id = [0xFF; 32];
-            key_id[0] = calls;
+            key_id[..2].copy_from_slice(&calls.to_le_bytes());
             let stranger = Lent {
                 key_id: &key_id,
                 ..lent()
@@ -190,9 +247,18 @@ fn two_afternoons() {
                 drafts += usize::from(matches!(got, Got::Draft(_)));
                 table = left;
             }
+            if dice.below(4) > 0 {
+                continue;
+            }
+            for key_id in [key_id, [dice.below(20) as u8; 32]] {
+                if let Ok(left) = withdrawn(THIRD, &key_id, &table) {
+                    withdrawals += 1;
+                    table = left;
+                }
+            }
         }
         table
     });
-    assert!(drafts > 20);
+    assert!(drafts > 20 && withdrawals > 5);
     assert_eq!(alone, crowded);
 }

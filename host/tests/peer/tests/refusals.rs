@@ -17,8 +17,10 @@ fn numbers() {
         Refusal::Command,
         Refusal::Lent,
         Refusal::Bytes,
+        Refusal::Field,
+        Refusal::Withdrawal,
     ];
-    assert_eq!(numbers.map(|refusal| refusal as u32), [1, 2, 3, 4, 5]);
+    assert_eq!(numbers.map(|refusal| refusal as u32), [1, 2, 3, 4, 5, 6, 7]);
 }
 
 #[test]

@@ -1,4 +1,4 @@
-//! The ten entries as `host/include/uaf_token.h` declares them. Nothing checks these declarations
+//! The eleven entries as `host/include/uaf_token.h` declares them. Nothing checks these declarations
 //! against the archive but calling them.
 
 use uaf_peer::MOST_FIELDS;
@@ -108,6 +108,18 @@ extern "C" {
         table_out_size: usize,
         answer: *mut u32,
         response_length: *mut usize,
+        table_length: *mut usize,
+    ) -> u32;
+
+    pub fn uaf_withdraw(
+        mixed: *const u8,
+        mixed_size: usize,
+        key_id: *const u8,
+        key_id_size: usize,
+        table: *const u8,
+        table_size: usize,
+        table_out: *mut u8,
+        table_out_size: usize,
         table_length: *mut usize,
     ) -> u32;
 

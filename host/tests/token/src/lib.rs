@@ -1,4 +1,4 @@
-//! The token for tests in Rust: its ten C entries as safe functions with the signatures and types
+//! The token for tests in Rust: its eleven C entries as safe functions with the signatures and types
 //! of `uaf_peer`, so that one can stand in for the other. `raw` has the forms that show what a call
 //! leaves in the numbers lent to it; the writers of commands have no other.
 
@@ -14,7 +14,7 @@ use uaf_peer::{Answer, Field, Fields, Lent, Refusal, Served, MOST_FIELDS};
 pub const RESPONSE: u32 = 0;
 pub const DRAFT: u32 = 1;
 
-/// The refusal of a number other than 0. Any but 1 to 6 is a fault of the token, and panics.
+/// The refusal of a number other than 0. Any but 1 to 7 is a fault of the token, and panics.
 pub fn refusal_of(number: u32) -> Refusal {
     match number {
         1 => Refusal::Output,
@@ -23,6 +23,7 @@ pub fn refusal_of(number: u32) -> Refusal {
         4 => Refusal::Lent,
         5 => Refusal::Bytes,
         6 => Refusal::Field,
+        7 => Refusal::Withdrawal,
         _ => panic!("{} is no refusal", number),
     }
 }
@@ -64,6 +65,17 @@ pub fn command(
         answer,
         table_length: numbers.table_length,
     })
+}
+
+pub fn withdraw(
+    mixed: &[u8],
+    key_id: &[u8],
+    table: &[u8],
+    table_out: &mut [u8],
+) -> Result<usize, Refusal> {
+    let mut length = 0;
+    refused_or_done(raw::withdraw(mixed, key_id, table, table_out, &mut length))?;
+    Ok(length)
 }
 
 pub fn hash(first: &[u8], second: &[u8]) -> [u8; HASH_SIZE] {

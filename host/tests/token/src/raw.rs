@@ -74,6 +74,30 @@ pub fn command(
     }
 }
 
+/// `uaf_withdraw`; gives 0 or the refusal.
+pub fn withdraw(
+    mixed: &[u8],
+    key_id: &[u8],
+    table: &[u8],
+    table_out: &mut [u8],
+    table_length: &mut usize,
+) -> u32 {
+    // Safety: as in `command`.
+    unsafe {
+        entries::uaf_withdraw(
+            mixed.as_ptr(),
+            mixed.len(),
+            key_id.as_ptr(),
+            key_id.len(),
+            table.as_ptr(),
+            table.len(),
+            table_out.as_mut_ptr(),
+            table_out.len(),
+            table_length,
+        )
+    }
+}
+
 /// `uaf_hash`, which has no refusal.
 pub fn hash(first: &[u8], second: &[u8], hash: &mut [u8; HASH_SIZE]) {
     // Safety: as in `command`.

@@ -1,7 +1,7 @@
 //! What the program's calls are lent, each with the letter that sets it in a script.
 
 use crate::bytes::{key, walk, ACCESS_TOKEN};
-use uaf_peer::{Lent, Profile, TableValue};
+use uaf_peer::{hash, Lent, Profile, TableValue};
 
 /// An argument as the script has it. Every number has 32 bits there, little-endian, so that none is
 /// cut off before the token judges it.
@@ -126,6 +126,39 @@ impl Call {
             public_key: &self.public_key,
             nonce: &self.nonce,
         }
+    }
+}
+
+/// What a withdrawal is lent, besides the table.
+#[derive(Clone)]
+pub struct Withdrawal {
+    pub mixed: Vec<u8>,
+    pub key_id: Vec<u8>,
+    pub table_out_size: u32,
+    /// As a command's.
+    pub spoilt: u32,
+}
+
+impl Withdrawal {
+    /// Of the record with this number, by the holder with this access token and no AppID.
+    pub fn of(token: &[u8; 32], number: u8) -> Withdrawal {
+        Withdrawal {
+            mixed: hash(token, b"").to_vec(),
+            key_id: key(number),
+            table_out_size: 6912,
+            spoilt: 0,
+        }
+    }
+
+    /// In the order in which a script sets them.
+    pub fn arguments(&self, table: &[u8]) -> Vec<Argument> {
+        vec![
+            bytes('M', &self.mixed),
+            bytes('k', &self.key_id),
+            bytes('t', table),
+            number('w', self.table_out_size),
+            number('b', self.spoilt),
+        ]
     }
 }
 

@@ -21,6 +21,7 @@ mod refusals;
 mod registrations;
 mod script;
 mod signatures;
+mod withdrawals;
 mod writings;
 
 use script::Trace;
@@ -58,6 +59,7 @@ fn trace() -> Trace {
     forms::mixed(&mut t);
     writings::writings(&mut t);
     hashes::hashes(&mut t);
+    withdrawals::withdrawals(&mut t);
     t
 }
 

@@ -37,7 +37,7 @@ pub fn refusals(t: &mut Trace) {
     for (name, change) in outputs {
         t.run(name, changed(get_info(), change));
     }
-    broken_tables(t);
+    on_broken_tables(t);
     t.give(&[anns(1)]);
     let none: [(&str, &[u8]); 6] = [
         ("nothing", &[]),
@@ -52,8 +52,13 @@ pub fn refusals(t: &mut Trace) {
     }
 }
 
-fn broken_tables(t: &mut Trace) {
-    for (what, table) in [broken_forms(), broken_rules(), broken_children()].concat() {
+/// Stored tables that break a rule each.
+pub fn broken_tables() -> Vec<Broken> {
+    [broken_forms(), broken_rules(), broken_children()].concat()
+}
+
+fn on_broken_tables(t: &mut Trace) {
+    for (what, table) in broken_tables() {
         t.give(&[table]);
         t.run(&format!("refusal 2, {what}"), of(get_info()));
     }
@@ -68,7 +73,7 @@ fn records(count: u8, name: &[u8]) -> Vec<u8> {
 }
 
 /// What is wrong with a table, and its bytes.
-type Broken = (&'static str, Vec<u8>);
+pub type Broken = (&'static str, Vec<u8>);
 
 fn broken_forms() -> Vec<Broken> {
     let good = anns(1);

@@ -2,10 +2,10 @@
 //! are what the peer answers to the same calls.
 
 use crate::bytes::hex;
-use crate::call::{spoil, Argument, Call, Completion, Writing};
+use crate::call::{spoil, Argument, Call, Completion, Withdrawal, Writing};
 use crate::output::{sum, Output};
 use std::collections::BTreeMap;
-use uaf_peer::{Answer, Fields, Refusal, MOST_FIELDS};
+use uaf_peer::{Answer, Fields, Refusal, TableValue, MOST_FIELDS};
 
 /// What a number that a call writes holds before it.
 const UNSET: usize = 77;
@@ -34,9 +34,24 @@ fn answered(answer: Answer, response: &Output) -> (String, Vec<u8>) {
     (said, response.0[..length].to_vec())
 }
 
+/// What is printed of storing a table that came back, and its stored form, if it has one.
+fn stored(table: &TableValue, size: u32, dump: bool) -> (String, Option<Vec<u8>>) {
+    let mut form = Output::new(size);
+    match uaf_peer::store(table, &mut form.0) {
+        Ok(length) => {
+            let said = format!("table {}", form.written(length, dump));
+            (said, Some(form.0[..length].to_vec()))
+        }
+        Err(refusal) => {
+            let said = format!("store {} {}", refusal as u32, form.whole_sum());
+            (said, None)
+        }
+    }
+}
+
 impl Trace {
-    /// From here on each so-many-th command is run on a table by value, the others on its stored
-    /// form: 0 is none, 1 is all. The ending is put behind each name.
+    /// From here on each so-many-th command or withdrawal is made on a table by value, the others on
+    /// its stored form: 0 is none, 1 is all. The ending is put behind each name.
     pub fn change_form(&mut self, by_value_every: usize, ending: &'static str) {
         self.by_value_every = by_value_every;
         self.ending = ending;
@@ -50,6 +65,11 @@ impl Trace {
     /// Hands the next call this table.
     pub fn give(&mut self, records: &[Vec<u8>]) {
         self.table = records.concat();
+    }
+
+    /// The table that the next call is handed.
+    pub fn table(&self) -> &[u8] {
+        &self.table
     }
 
     /// Sets the arguments that are not so already.
@@ -72,12 +92,17 @@ impl Trace {
         self.set.insert('t', table.to_vec());
     }
 
+    /// Whether the next command or withdrawal is made on a table by value.
+    fn next_by_value(&mut self) -> bool {
+        self.runs += 1;
+        self.by_value_every > 0 && self.runs % self.by_value_every == 0
+    }
+
     /// Runs a command; the table left is the next call's. Gives what was written, nothing after a
     /// refusal.
     pub fn run(&mut self, name: &str, call: Call) -> Vec<u8> {
         self.set(call.arguments(&self.table));
-        self.runs += 1;
-        let by_value = self.by_value_every > 0 && self.runs % self.by_value_every == 0;
+        let by_value = self.next_by_value();
         let name = format!("{}{}", name, self.ending);
         let mark = match (by_value, call.dump) {
             (false, false) => '!',
@@ -138,17 +163,69 @@ impl Trace {
                 (said, vec![])
             }
         };
-        let mut form = Output::new(call.table_out_size);
-        let stored = uaf_peer::store(&table, &mut form.0);
-        let kept = match stored {
-            Ok(length) => format!("table {}", form.written(length, call.dump)),
-            Err(refusal) => format!("store {} {}", refusal as u32, form.whole_sum()),
-        };
+        let (kept, stored) = stored(&table, call.table_out_size, call.dump);
         self.expect(name, &format!("by value, {said} {kept}"));
-        if let (Ok(_), Ok(length)) = (served, stored) {
-            self.keep(&form.0[..length]);
+        if let (Ok(_), Some(stored)) = (served, stored) {
+            self.keep(&stored);
         }
         answer
+    }
+
+    /// Withdraws a record; the table left is the next call's. Gives 0 or the refusal.
+    pub fn withdraw(&mut self, name: &str, withdrawal: &Withdrawal) -> u32 {
+        self.set(withdrawal.arguments(&self.table));
+        let by_value = self.next_by_value();
+        let name = format!("{}{}", name, self.ending);
+        let mark = if by_value { '~' } else { '-' };
+        self.script.push(format!("{mark} {name}"));
+        let done = if by_value {
+            self.withdraw_by_value(&name, withdrawal)
+        } else {
+            self.withdraw_stored(&name, withdrawal)
+        };
+        done.map_or_else(|refusal| refusal as u32, |()| 0)
+    }
+
+    fn withdraw_stored(&mut self, name: &str, withdrawal: &Withdrawal) -> Result<(), Refusal> {
+        let Withdrawal { mixed, key_id, .. } = withdrawal;
+        let mut table = Output::new(withdrawal.table_out_size);
+        let done = uaf_peer::withdraw(mixed, key_id, &self.table, &mut table.0);
+        match done {
+            Err(refusal) => {
+                let kept = table.whole_sum();
+                self.expect(name, &format!("refusal {} {UNSET} {kept}", refusal as u32));
+            }
+            Ok(length) => {
+                let left = table.written(length, true);
+                self.expect(name, &format!("withdrawn table {left}"));
+                self.keep(&table.0[..length]);
+            }
+        }
+        done.map(drop)
+    }
+
+    /// The table is loaded, and the one that comes back is stored, also after a refusal.
+    fn withdraw_by_value(&mut self, name: &str, withdrawal: &Withdrawal) -> Result<(), Refusal> {
+        let Withdrawal { mixed, key_id, .. } = withdrawal;
+        let mut table = match uaf_peer::load(&self.table) {
+            Ok(table) => table,
+            Err(refusal) => {
+                self.expect(name, &format!("load {}", refusal as u32));
+                return Err(refusal);
+            }
+        };
+        spoil(&mut table, withdrawal.spoilt);
+        let done = uaf_peer::withdraw_by_value(mixed, key_id, &mut table);
+        let said = match done {
+            Ok(()) => "withdrawn".to_string(),
+            Err(refusal) => format!("refusal {}", refusal as u32),
+        };
+        let (kept, stored) = stored(&table, withdrawal.table_out_size, true);
+        self.expect(name, &format!("by value, {said} {kept}"));
+        if let (Ok(()), Some(stored)) = (done, stored) {
+            self.keep(&stored);
+        }
+        done
     }
 
     /// Completes a draft; the response is what is read next. Gives it, nothing after a refusal.
@@ -276,7 +353,8 @@ fn not_read(refusal: Refusal) -> String {
 #[cfg(test)]
 mod tests {
     use super::Trace;
-    use crate::call::{of, Kind, Writing};
+    use crate::bytes::{anns, ANN};
+    use crate::call::{of, Kind, Withdrawal, Writing};
 
     fn settings(command_size: u32) -> Writing {
         Writing {
@@ -350,5 +428,40 @@ mod tests {
             t.script,
             ["% nothing", "x 6162", "h 63", "% abc", "x ", "% c"]
         );
+    }
+
+    /// In both forms: a refusal, a table output that is short, and a record that goes.
+    #[test]
+    fn what_is_printed_of_a_withdrawal() {
+        let mut t = Trace::default();
+        let right = Withdrawal::of(&ANN, 1);
+        let short = Withdrawal {
+            table_out_size: 4,
+            ..right.clone()
+        };
+        for by_value_every in [0, 1] {
+            t.change_form(by_value_every, "");
+            t.give(&[anns(1)]);
+            assert_eq!(t.withdraw("short", &short), 1 - by_value_every as u32);
+            assert_eq!(t.table(), anns(1));
+            assert_eq!(t.withdraw("gone", &right), 0);
+            assert_eq!(t.withdraw("none", &right), 7);
+        }
+        t.give(&[vec![0]]);
+        assert_eq!(t.withdraw("broken", &right), 2);
+        assert_eq!(
+            t.expected,
+            [
+                "short: refusal 1 77 156238777",
+                "gone: withdrawn table 0 1 2230393720 ",
+                "none: refusal 7 77 2230393720",
+                "short: by value, withdrawn store 1 156238777",
+                "gone: by value, withdrawn table 0 1 2230393720 ",
+                "none: by value, refusal 7 table 0 1 2230393720 ",
+                "broken: load 2",
+            ]
+        );
+        let marks: Vec<&str> = t.script.iter().map(|line| &line[..1]).collect();
+        assert_eq!(marks.concat(), "Mktwb-w--tw~w~~t~");
     }
 }
