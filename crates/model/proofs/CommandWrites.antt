@@ -215,11 +215,11 @@ names-number : (rs : Table) → length (name_fields rs) ≡ size (name_pairs (le
 names-number [] = refl
 names-number (r ∷ rs) = omega (arith, names-number rs)
 
-names-keys : (at : ℕ) (rs : Table)
+names-keys : (rs : Table) (at : ℕ)
     → map (λ v. v.value) (select (λ v. is_handle v.tag) (leaves at (name_pairs (length rs)) (name_fields rs))) ≡ key_ids rs
 unfolding nodes
-names-keys at [] = refl
-names-keys at (r ∷ rs) = ap (λ (ks : List (List ℕ)). r.key_id ∷ ks) (names-keys _ rs)
+names-keys [] at = refl
+names-keys (r ∷ rs) at = ap (λ (ks : List (List ℕ)). r.key_id ∷ ks) (names-keys rs _)
 
 pairs_unsigned : (n : ℕ) → lacks is_signed (name_pairs n) ≡ true
 pairs_unsigned zero = refl
@@ -240,7 +240,7 @@ names_good q l rs t h m =
             number = omega (arith, names-number rs);
             written = refl;
           };
-      keys = rw (append-nil (nodes 10 (name_pairs (length rs)) (name_fields rs)), names-keys 10 rs) t.once;
+      keys = rw (append-nil (nodes 10 (name_pairs (length rs)) (name_fields rs)), names-keys rs 10) t.once;
       tag = refl;
       unsigned = both (pairs_unsigned (length rs)) refl;
     }

@@ -1,6 +1,6 @@
 -- The writer of commands: a command that it writes breaks no rule and has the values that were given and nothing else; and what it refuses.
 -- Assumes nothing.
-use mathlib.Core.Path.{◌≡◌, refl, sym, ap}
+use mathlib.Core.Path.{◌≡◌, refl, sym, ap, subst}
 use mathlib.Core.Bool.{Bool, true, false, not, cond, ◌&&◌}
 use mathlib.Core.List.{List, [], ◌∷◌, ◌++◌, map, append-nil}
 use mathlib.Core.Logic.{◌⊎◌, inl, inr}
@@ -177,15 +177,17 @@ values-written (f ∷ fs) [] d o = absurd o
 values-written (f ∷ fs) (vs ∷ vss) d (o, os) =
     let t : ℕ = tag_of f.field in
     let (alone, rest) = first_differs f fs d in
-    rw (
-      o.said,
+    subst
+    (λ (v : Values). values_for (f ∷ fs) (children_for (f ∷ fs) (v ∷ vss)) ≡ v ∷ vss)
+    (sym o.said)
+    (rw (
       front_values f.field t o.values (children_for fs vss),
       eq-eqb t t refl,
       other_values f.field fs vss alone,
       past-values t o.values (children_for fs vss) fs alone,
       values-written fs vss rest os,
       append-nil,
-    )
+    ))
 
 -- so each is given as often as it must and may be
 times-written : (ts : List Tlv) (fs : List Listed) → Obeyed fs (values_for fs ts) → all (times_ok ts) fs ≡ true
