@@ -1,6 +1,6 @@
 // What a call says: one refusal, by its number; or what was written: a response or a draft, of this length, and the stored form of the table left, of
 // that length.
-#[derive(Drop)]
+#[derive(Clone, Copy)]
 pub enum Outcome {
     Refused(u32),
     Gave {

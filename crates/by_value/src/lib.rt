@@ -17,14 +17,14 @@ use params::lent::Numbers;
 use stored_table::records::MAX_STORED;
 
 // One refusal, by its number; or what was written: a response or a draft, of this length.
-#[derive(Drop)]
+#[derive(Clone, Copy)]
 pub enum Answered {
     Refused(u32),
     Gave { draft: bool, len: usize },
 }
 
 // What a call by value gives, and the table that it leaves.
-#[derive(Drop)]
+#[derive(Clone, Copy)]
 pub struct Ran {
     pub answered: Answered,
     pub table: Table,

@@ -14,7 +14,7 @@ use key_table::records::Table;
 use stored_table::records::MAX_STORED;
 
 // What a withdrawal by value gives: the refusal number, or 0 where the record was taken back; and the table that it leaves.
-#[derive(Drop)]
+#[derive(Clone, Copy)]
 pub struct Withdrew {
     pub refusal: u32,
     pub table: Table,

@@ -8,7 +8,7 @@ use stored_table::left::Change;
 
 // What a command decided on a table: a reply, how many records it names, and a change. The numbers of the records named stand first in what the
 // command was lent for them.
-#[derive(Drop)]
+#[derive(Clone, Copy)]
 pub struct Decision {
     pub shape: Shape,
     pub named: usize,
@@ -16,7 +16,7 @@ pub struct Decision {
 }
 
 // The first status that a command's checks give, if one of them fails.
-#[derive(Drop)]
+#[derive(Clone, Copy)]
 pub enum Judged {
     Fails(usize),
     Passes,

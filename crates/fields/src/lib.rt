@@ -18,7 +18,7 @@ pub const MAX_COMMAND: usize = 8192;
 pub const LEAST_OUTPUT: usize = 4096;
 
 // A field of which only the size is asked where it comes from a caller.
-#[derive(Drop)]
+#[derive(Clone, Copy)]
 pub enum Field {
     KeyId,
     MixedToken,

@@ -23,7 +23,7 @@ pub const BAD_FIELD: u32 = 6;
 pub const NOT_WITHDRAWABLE: u32 = 7;
 
 // What a function with one output says: a refusal, by its number, or the length of what it wrote.
-#[derive(Drop)]
+#[derive(Clone, Copy)]
 pub enum Written {
     Refused(u32),
     Wrote(usize),

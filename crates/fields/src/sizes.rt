@@ -3,7 +3,7 @@ ghost use Rattle.std.specs.Prelude.{◌≡◌, ◌&&◌, leb};
 
 use crate::{MAX_COMMAND, tags};
 
-#[derive(Drop)]
+#[derive(Clone, Copy)]
 pub struct Size {
     pub tag: usize,
     pub least: usize,

@@ -108,7 +108,7 @@ fn values_at(table: &[u8], places: &[usize]) -> Table
 }
 
 // What reading a stored table gives: 0 and the table, or refusal 2 and an empty one. Spare bytes are zero.
-#[derive(Drop)]
+#[derive(Clone, Copy)]
 pub struct Loaded {
     pub refusal: u32,
     pub table: Table,

@@ -6,7 +6,7 @@ use stored_table::records::MAX_RECORDS;
 use tlv::writer::put_bytes;
 
 // A record. The name is the first name_len bytes of its array.
-#[derive(Drop)]
+#[derive(Clone, Copy)]
 pub struct Record {
     pub key_id: [u8; 32],
     pub mixed: [u8; 32],
@@ -16,7 +16,7 @@ pub struct Record {
 }
 
 // A table: its records, oldest first, are the first len of these.
-#[derive(Drop)]
+#[derive(Clone, Copy)]
 pub struct Table {
     pub records: [Record; MAX_RECORDS],
     pub len: usize,

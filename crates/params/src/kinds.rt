@@ -9,7 +9,7 @@ use tlv::numbers::get16;
 use utf8::is_utf8;
 
 // The five commands.
-#[derive(Drop)]
+#[derive(Clone, Copy)]
 pub enum Kind {
     GetInfo,
     Register,
@@ -19,7 +19,7 @@ pub enum Kind {
 }
 
 // The command that the outer tag names.
-#[derive(Drop)]
+#[derive(Clone, Copy)]
 pub enum Named {
     Command(Kind),
     Unknown,
@@ -90,7 +90,7 @@ pub fn slot_of(tag: usize) -> usize
 pub const ENTRIES: usize = 11;
 
 // How often the field of each slot must be given, and how often it may be.
-#[derive(Drop)]
+#[derive(Clone, Copy)]
 pub struct Listing {
     pub least: [u8; ENTRIES],
     pub most: [u8; ENTRIES],

@@ -10,7 +10,7 @@ use fields::{Field, fits};
 
 // The lent numbers: the profile's, the fingerprint's verdict and the display's result. Each has 32 bits, so that none is cut off before it is judged.
 // The lent stretches are parameters of their own, because a struct of references is proved by hand.
-#[derive(Drop)]
+#[derive(Clone, Copy)]
 pub struct Numbers {
     pub version: u32,
     pub signature_algorithm: u32,

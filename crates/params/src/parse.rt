@@ -12,7 +12,7 @@ use tlv::walk::tlv_at;
 
 // The fields of a command: whether it breaks a rule and, if not, where each field's bytes stand in it, and how many key handles it has, whose
 // places are put where the caller wants them. AppID and access token are for whoever works out the mixed token.
-#[derive(Drop)]
+#[derive(Clone, Copy)]
 pub struct Params {
     pub broken: bool,
     pub app_id: Span,

@@ -2,7 +2,7 @@ ghost use Rattle.std.specs.Prelude.{◌≡◌};
 ghost use Rattle.replies.specs.Replies.{is_draft};
 
 // A reply. The records whose names are given stand beside it, by their numbers, because an enum cannot hold an array.
-#[derive(Drop)]
+#[derive(Clone, Copy)]
 pub enum Shape {
     Status(usize), // a status alone
     Info, // GetInfo's information

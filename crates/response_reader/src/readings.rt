@@ -208,7 +208,7 @@ fn parts_in(
 }
 
 // What the second call gives beside the columns: 0 or the refusal's number; the response tag, the status and the number of fields, or zeros.
-#[derive(Drop)]
+#[derive(Clone, Copy)]
 pub struct Reading {
     pub refusal: u32,
     pub tag: usize,

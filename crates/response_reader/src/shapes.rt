@@ -88,7 +88,7 @@ fn is_signed(s: &[u8]) -> bool
 }
 
 // What a stretch is: no response; or a response, whose signed structure with its header is this part, which is empty where it has none.
-#[derive(Drop)]
+#[derive(Clone, Copy)]
 pub enum Shape {
     NoResponse,
     Response(Span),
@@ -227,7 +227,7 @@ fn shape_with(s: &[u8], tag: usize) -> Shape
 }
 
 // How a stretch starts: as no response; as a status, which is a response alone; or with this tag and status OK, and more follows.
-#[derive(Drop)]
+#[derive(Clone, Copy)]
 enum Opening {
     NoResponse,
     Alone,

@@ -6,7 +6,7 @@ ghost use Rattle.sha256.specs.Views.{view};
 use std::num::wrapping_add_u32;
 
 // The eight words of a hash value, and the eight working variables.
-#[derive(Drop)]
+#[derive(Clone, Copy)]
 pub struct Words {
     pub a: u32,
     pub b: u32,

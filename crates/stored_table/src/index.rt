@@ -19,7 +19,7 @@ fn obeys(table: &[u8], places: &[usize]) -> bool
 }
 
 // How many records a stored table has, if there is one.
-#[derive(Drop)]
+#[derive(Clone, Copy)]
 pub struct Index {
     pub ok: bool,
     pub len: usize,

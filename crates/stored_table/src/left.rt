@@ -14,7 +14,7 @@ use tlv::writer::{put_bytes, put_header, put_tlv, put_tlv32};
 
 // What a command changes in the table. A name and a KeyID are parts of the command; an empty KeyID removes all of the mixed token. A record is told by
 // its number, the oldest of all being 0.
-#[derive(Drop)]
+#[derive(Clone, Copy)]
 pub enum Change {
     Keep,
     Add(Span),

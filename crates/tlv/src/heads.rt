@@ -5,7 +5,7 @@ ghost use Rattle.tlv.specs.Spans.{Inside};
 use crate::numbers::get16;
 
 // A part of a stretch, from a place up to another.
-#[derive(Drop)]
+#[derive(Clone, Copy)]
 pub struct Span {
     pub start: usize,
     pub end: usize,
@@ -42,7 +42,7 @@ pub fn part_of(s: &[u8], p: Span) -> &[u8]
 }
 
 // What stands at a place of a stretch: a TLV, whose value lies from start to end; bytes that are none; or nothing more.
-#[derive(Drop)]
+#[derive(Clone, Copy)]
 pub enum Head {
     Tlv {
         tag: usize,

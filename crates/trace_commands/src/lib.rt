@@ -15,7 +15,7 @@ use script::text::{adler, write_next, write_written};
 use token::uaf_command;
 
 // What a call gave: the refusal number, or 0, and the three numbers.
-#[derive(Drop)]
+#[derive(Clone, Copy)]
 struct Given {
     code: u32,
     answer: u32,

@@ -44,7 +44,7 @@ pub fn complete(name: &[u8], mem: &mut [u8]) {
 }
 
 // What the second call gave.
-#[derive(Drop)]
+#[derive(Clone, Copy)]
 struct Listed {
     code: u32,
     tag: usize,
@@ -131,7 +131,7 @@ fn tell_listed(l: Listed) {
 }
 
 // What the first call gave, by both of its forms: the place and the length, and the part itself.
-#[derive(Drop)]
+#[derive(Clone, Copy)]
 struct Pointed {
     code: u32,
     place: usize,

@@ -14,7 +14,7 @@ use token::writers::{
 };
 
 // What a writer gave: the refusal number, or 0, and the length.
-#[derive(Drop)]
+#[derive(Clone, Copy)]
 struct Given {
     code: u32,
     len: usize,
