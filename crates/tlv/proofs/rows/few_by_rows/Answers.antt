@@ -1,0 +1,36 @@
+use borrow.Author.Rules.{rules}
+use mathlib.Core.Path.{◌≡◌, sym, ◌∙◌}
+use Prim.Native.Nat.{◌-◌, ◌≤◌, ◌<◌}
+use native.Mathlib.Omega.{arith}
+use lib.ListN.{length, drop}
+use Rattle.tlv.specs.Rows.{rows, each_few}
+use Rattle.tlv.proofs.RowLaws.{few_from, few-from, few-end, few-at}
+use Rattle.tlv.proofs.rows.few_by_rows.Goals as goal
+use Rattle.tlv.proofs.rows.few_by_rows.Goals.{In-loop-i}
+
+pub loop-i-init : goal.loop-i-init
+loop-i-init c = (search rules, few-from _ _)
+
+-- a row that is counted is one of them
+inside : (c : In-loop-i) → c.loop-i.i < length c.args.places.now
+inside c = omega (arith, c.loop-i-test.true)
+
+pub returns-then-is_often : goal.returns-then-is_often
+returns-then-is_often c =
+    let a = c.args in
+    sym (few-at _ _ a.s.now _ (inside (goal.at.returns-then-is_often c).In-loop-i) a.most c.loop-i.invariant.1 c.is_often.ensures c.if-is_often.true)
+
+pub loop-i-preserved : goal.loop-i-preserved
+loop-i-preserved c =
+    let a = c.args in (
+      omega (arith, inside (goal.at.loop-i-preserved c).In-loop-i),
+      few-at _ _ a.s.now _ (inside (goal.at.loop-i-preserved c).In-loop-i) a.most c.loop-i.invariant.1 c.is_often.ensures c.if-is_often.false,
+    )
+
+pub returns : goal.returns
+returns c =
+    let l = c.loop-i.invariant in
+    sym (l.1 ∙ few-end _ _ _ _ _ l.0 c.loop-i-test.false)
+
+pub is_often-requires : goal.is_often-requires
+is_often-requires c = (c.requires, inside c)

@@ -1,0 +1,7 @@
+-- `is_among` goes by how often the row stands there.
+use borrow.Author.Rules.{rules}
+use Rattle.tlv.proofs.RowLaws.{among-times}
+use Rattle.tlv.proofs.rows.is_among.Goals as goal
+
+pub returns : goal.returns
+returns c = among-times _ _ c.times_in.ensures

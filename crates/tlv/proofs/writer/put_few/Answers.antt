@@ -1,0 +1,18 @@
+use mathlib.Core.Path.{◌≡◌, refl}
+use Prim.Native.Nat.{◌-◌, ◌≤◌}
+use native.Mathlib.Omega.{arith}
+use lib.ListN.{length}
+use lib.Seq.{paste, paste-zero}
+use Rattle.tlv.proofs.WriteLaws.{wrote_paste, paste_step}
+use borrow.Author.Rules.{rules}
+use Rattle.tlv.proofs.writer.put_few.Goals as goal
+
+pub loop-i-init : goal.loop-i-init
+loop-i-init c = (search rules, refl, paste-zero _ c.args.at c.args.src.now)
+
+pub loop-i-preserved : goal.loop-i-preserved
+loop-i-preserved c =
+    (search rules, search rules, paste_step _ _ _ _ (omega arith) c.loop-i-test.true c.loop-i.invariant.2)
+
+pub returns : goal.returns
+returns c = wrote_paste _ _ _ c.loop-i.i c.requires refl (omega arith) c.loop-i.invariant.2

@@ -1,0 +1,7 @@
+-- A header and a number of four bytes are a TLV.
+use Rattle.tlv.proofs.WriteLaws.{then_value}
+use Rattle.tlv.proofs.writer.put_tlv32.Goals as goal
+
+pub returns : goal.returns
+returns c =
+    then_value _ c.put_header-a.ensures c.put32.ensures
