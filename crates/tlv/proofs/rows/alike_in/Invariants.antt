@@ -1,13 +1,8 @@
 -- After i turns the marks from the start up to i are counted.
-use borrow.Author.Rules.{rules}
 use mathlib.Core.Path.{◌≡◌}
-use mathlib.Core.Logic.{⊎_elim}
 use Prim.Native.Nat.{◌+◌, ◌-◌, ◌≤◌}
-use native.Mathlib.Omega.{arith}
 use lib.ListN.{length, drop}
-use borrow.Author.Tests.{eq-eqb, ne_eqb}
 use Rattle.tlv.specs.Rows.{alike}
-use Rattle.tlv.proofs.RowLaws.{alike_end, alike_at}
 use Rattle.tlv.proofs.rows.alike_in.Given as goal
 
 abbrev pub invariant-loop-i : goal.invariant-loop-i

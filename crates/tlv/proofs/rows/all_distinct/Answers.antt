@@ -1,6 +1,5 @@
 -- `all_distinct` goes by whether each row stands there at most once.
 use mathlib.Core.Path.{◌∙◌}
-use borrow.Author.Rules.{rules}
 use Rattle.tlv.proofs.RowLaws.{few-all, few-distinct}
 use Rattle.tlv.proofs.rows.all_distinct.Goals as goal
 

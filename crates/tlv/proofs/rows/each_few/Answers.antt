@@ -1,5 +1,4 @@
 -- No row can stand there more often than there are rows.
-use borrow.Author.Rules.{rules}
 use Rattle.tlv.proofs.RowLaws.{few-all}
 use Rattle.tlv.proofs.rows.each_few.Goals as goal
 

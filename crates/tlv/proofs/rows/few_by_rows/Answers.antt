@@ -1,10 +1,9 @@
 use borrow.Author.Rules.{rules}
-use mathlib.Core.Path.{◌≡◌, sym, ◌∙◌}
-use Prim.Native.Nat.{◌-◌, ◌≤◌, ◌<◌}
+use mathlib.Core.Path.{sym, ◌∙◌}
+use Prim.Native.Nat.{◌<◌}
 use native.Mathlib.Omega.{arith}
-use lib.ListN.{length, drop}
-use Rattle.tlv.specs.Rows.{rows, each_few}
-use Rattle.tlv.proofs.RowLaws.{few_from, few-from, few-end, few-at}
+use lib.ListN.{length}
+use Rattle.tlv.proofs.RowLaws.{few-from, few-end, few-at}
 use Rattle.tlv.proofs.rows.few_by_rows.Goals as goal
 use Rattle.tlv.proofs.rows.few_by_rows.Goals.{In-loop-i}
 

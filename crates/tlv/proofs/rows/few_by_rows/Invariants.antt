@@ -1,11 +1,9 @@
 -- After i turns each of the first i rows stands at most so many times from its own place on.
-use borrow.Author.Rules.{rules}
-use mathlib.Core.Path.{◌≡◌, sym, ◌∙◌}
-use Prim.Native.Nat.{◌-◌, ◌≤◌, ◌<◌}
-use native.Mathlib.Omega.{arith}
+use mathlib.Core.Path.{◌≡◌}
+use Prim.Native.Nat.{◌-◌, ◌≤◌}
 use lib.ListN.{length, drop}
 use Rattle.tlv.specs.Rows.{rows, each_few}
-use Rattle.tlv.proofs.RowLaws.{few_from, few-from, few-end, few-at}
+use Rattle.tlv.proofs.RowLaws.{few_from}
 use Rattle.tlv.proofs.rows.few_by_rows.Given as goal
 
 abbrev pub invariant-loop-i : goal.invariant-loop-i

@@ -1,5 +1,4 @@
 -- `is_among` goes by how often the row stands there.
-use borrow.Author.Rules.{rules}
 use Rattle.tlv.proofs.RowLaws.{among-times}
 use Rattle.tlv.proofs.rows.is_among.Goals as goal
 

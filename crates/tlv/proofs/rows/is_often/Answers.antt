@@ -1,5 +1,4 @@
 -- How often it stands there is what `times_in` gives.
-use borrow.Author.Rules.{rules}
 use native.Mathlib.Omega.{arith}
 use Rattle.tlv.proofs.RowLaws.{often-at}
 use Rattle.tlv.proofs.rows.is_often.Goals as goal

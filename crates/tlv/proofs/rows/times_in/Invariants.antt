@@ -1,12 +1,8 @@
 -- After i turns the rows from the start up to i are counted.
-use borrow.Author.Rules.{rules}
-use mathlib.Core.Path.{◌≡◌, ap}
-use mathlib.Core.Logic.{⊎_elim}
+use mathlib.Core.Path.{◌≡◌}
 use Prim.Native.Nat.{◌+◌, ◌-◌, ◌≤◌}
-use native.Mathlib.Omega.{arith}
 use lib.ListN.{length, drop}
 use Rattle.tlv.specs.Rows.{rows, times}
-use Rattle.tlv.proofs.RowLaws.{rows_end, times-at}
 use Rattle.tlv.proofs.rows.times_in.Given as goal
 
 abbrev pub invariant-loop-i : goal.invariant-loop-i

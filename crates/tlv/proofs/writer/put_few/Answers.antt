@@ -1,8 +1,6 @@
-use mathlib.Core.Path.{◌≡◌, refl}
-use Prim.Native.Nat.{◌-◌, ◌≤◌}
+use mathlib.Core.Path.{refl}
 use native.Mathlib.Omega.{arith}
-use lib.ListN.{length}
-use lib.Seq.{paste, paste-zero}
+use lib.Seq.{paste-zero}
 use Rattle.tlv.proofs.WriteLaws.{wrote_paste, paste_step}
 use borrow.Author.Rules.{rules}
 use Rattle.tlv.proofs.writer.put_few.Goals as goal

@@ -1,8 +1,8 @@
-use mathlib.Core.Path.{◌≡◌, refl}
-use Prim.Native.Nat.{◌+◌, ◌-◌, ◌≤◌}
+use mathlib.Core.Path.{refl}
+use Prim.Native.Nat.{◌+◌, ◌-◌}
 use native.Mathlib.Omega.{arith}
 use lib.ListN.{length}
-use lib.Seq.{paste, paste-zero}
+use lib.Seq.{paste-zero}
 use Rattle.tlv.proofs.WriteLaws.{paste_over, wrote_paste}
 use borrow.Author.Rules.{rules}
 use Rattle.tlv.proofs.writer.put_long.Goals as goal
@@ -12,14 +12,11 @@ loop-i-init c = (search rules, refl, paste-zero _ c.args.at c.args.src.now)
 
 pub loop-i-preserved : goal.loop-i-preserved
 loop-i-preserved c =
-    let at-loop = (goal.at.loop-i-preserved c).At-loop-i in
-    (omega arith, search rules, paste_over _ _ _ at-loop.loop.i at-loop.loop.i 16 refl (omega arith) (omega arith) (omega arith) (omega arith) at-loop.loop.invariant.2 c.put_block.ensures)
+    (omega arith, search rules, paste_over _ _ _ c.loop-i.i c.loop-i.i 16 refl (omega arith) (omega arith) (omega arith) (omega arith) c.loop-i.invariant.2 c.put_block.ensures)
 
 pub returns : goal.returns
 returns c =
-    let at-loop = (goal.at.returns c).At-loop-i in
-    let start = at-loop.before.before.before in
-    let last = length start.args.src.now - 16 in
+    let last = length c.args.src.now - 16 in
     let written = c.put_block-2.ensures in
     wrote_paste _ _ _ (last + 16) (omega arith) (omega (arith, written.next)) (omega arith)
-    (paste_over _ _ _ at-loop.loop.i last 16 refl (omega arith) (omega arith) (omega arith) (omega arith) at-loop.loop.invariant.2 written)
+    (paste_over _ _ _ c.loop-i.i last 16 refl (omega arith) (omega arith) (omega arith) (omega arith) c.loop-i.invariant.2 written)

@@ -1,6 +1,5 @@
 -- A header and its value are a TLV.
 use Rattle.tlv.proofs.WriteLaws.{then_value}
-use borrow.Author.Rules.{rules}
 use Rattle.tlv.proofs.writer.put_tlv.Goals as goal
 
 pub returns : goal.returns
