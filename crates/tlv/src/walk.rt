@@ -3,8 +3,8 @@ ghost use Rattle.tlv.specs.Heads.{head_at};
 
 use crate::heads::{Head, head_at};
 
-// A walk: "the stretch being read, with the place reached in it". A struct that holds a reference is proved by hand, so what is over it is
-// thin: it is taken apart here, the work is done by `head_at` on slice and number, and everybody else calls `tlv_at`.
+// A walk: "the stretch being read, with the place reached in it". What is over it is thin: it is taken apart here, the work is done by
+// `head_at` on slice and number, and everybody else calls `tlv_at`.
 #[derive(Clone, Copy)]
 pub struct Walk<'a> {
     pub stretch: &'a [u8],
