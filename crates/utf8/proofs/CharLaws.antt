@@ -1,6 +1,6 @@
 -- The character at a place of a stretch, by its bytes there.
 -- Assumes nothing.
-use mathlib.Core.Path.{◌≡◌, refl, sym, ◌∙◌}
+use mathlib.Core.Path.{◌≡◌, refl, sym, ap, ◌∙◌}
 use mathlib.Core.Bool.{true, false, ◌&&◌}
 use mathlib.Core.List.{List, [], ◌∷◌}
 use mathlib.Core.Option.{none, some}
@@ -31,7 +31,7 @@ module _ (s : List ℕ) where
   one_more r rs p l =
       split (leb (length s) p)
       (λ h. rw (drop_of_length-le s {i = p} (leb-true _ _ h), get_or-eq_default s 0 {n = p} (leb-true _ _ h), lt-leb r.low 0 (omega arith)))
-      (λ h. rw (add-one p, drop-cons s p 0 (leb-false _ _ h)))
+      (λ h. rw (drop-cons s p 0 (leb-false _ _ h)) (ap (λ n. within r (get_or s p 0) && utf8_after (some rs) (drop n s)) (sym (add-one p))))
 
 -- ---- how many bytes follow a first byte
 

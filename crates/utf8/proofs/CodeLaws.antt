@@ -1,6 +1,6 @@
 -- The turns of the loops, and bytes that are tested together.
 -- Assumes nothing.
-use mathlib.Core.Path.{◌≡◌, refl, sym, ◌∙◌}
+use mathlib.Core.Path.{◌≡◌, refl, sym, ap, ◌∙◌}
 use mathlib.Core.Bool.{Bool, true, false, not, ◌&&◌, ◌||◌}
 use mathlib.Core.List.{List, [], ◌∷◌}
 use Prim.Native.Nat.{ℕ, suc, ◌+◌, ◌-◌, ◌≤◌, ◌<◌}
@@ -81,7 +81,8 @@ ascii_utf8 : (s : List ℕ) → ((i : ℕ) → i < length s → leb (get_or s i 
 unfolding utf8_after
 ascii_utf8 [] f = refl
 ascii_utf8 (a ∷ s) f =
-    rw (alternative 0 a refl (omega arith) (leb-true a 0x7F (f 0 (omega arith)))) (ascii_utf8 s (λ i h. f (suc i) (omega arith)))
+    ap (λ o. utf8_after o s) (alternative 0 a refl (omega arith) (leb-true a 0x7F (f 0 (omega arith))))
+    ∙ ascii_utf8 s (λ i h. f (suc i) (omega arith))
 
 pub plain-utf8 : (s : List ℕ) → plain (length s) s 0 ≡ true → utf8 s ≡ true
 unfolding plain_at

@@ -1,5 +1,7 @@
 // Whether a stretch of bytes is well-formed UTF-8 (RFC 3629). A short one is read character by character. In a longer one each byte is judged by itself
 // and the three before it, so that 16 are judged together, in any order and without a branch.
+#![tactic(auto)]
+
 ghost use Rattle.std.specs.Prelude.{◌≡◌, not, ◌&&◌, ◌+◌, ◌-◌, ◌≤◌, ◌<◌, length, get_or};
 ghost use Rattle.model.specs.Utf8.{within, tail, utf8};
 ghost use Rattle.utf8.specs.Places.{owed, stands, places, padded, never, barred, Reached, plain};
