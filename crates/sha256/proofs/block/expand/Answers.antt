@@ -6,7 +6,7 @@ use Rattle.sha256.proofs.block.expand.Goals as goal
 pub returns-then-turn-ge12 : goal.returns-then-turn-ge12
 returns-then-turn-ge12 c =
     let t = c.args.turn in
-    (search rules, λ x l b. no_more _ x (4 * t + 16) (4 * t + 20) c.requires.1 l (omega arith) (omega arith) b)
+    record { w_len = search rules; by_index = λ x l b. no_more _ x (4 * t + 16) (4 * t + 20) c.requires.1 l (omega arith) (omega arith) b }
 
 pub loop-n-init : goal.loop-n-init
 loop-n-init c =
@@ -22,4 +22,7 @@ loop-n-preserved c =
 pub returns : goal.returns
 returns c =
     let t = c.args.turn in
-    (c.loop-n.invariant.1, λ x l b. as_many _ x (4 * t + c.loop-n.n + 16) (4 * t + 20) (omega arith) (c.loop-n.invariant.2 x l b))
+    record {
+      w_len = c.loop-n.invariant.1;
+      by_index = λ x l b. as_many _ x (4 * t + c.loop-n.n + 16) (4 * t + 20) (omega arith) (c.loop-n.invariant.2 x l b);
+    }

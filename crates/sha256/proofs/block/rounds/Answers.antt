@@ -15,9 +15,9 @@ loop-turn-preserved c =
     let done = c.expand in
     let t = c.loop-turn.turn in
     let x = take 16 c.args.words in
-    let more : Begun (4 * t + 20) x done.new.0 = done.ensures.1 x c.loop-turn.invariant.2 c.loop-turn.invariant.3 in (
+    let more : Begun (4 * t + 20) x done.new.w = done.ensures.by_index x c.loop-turn.invariant.2 c.loop-turn.invariant.3 in (
       search rules,
-      done.ensures.0,
+      done.ensures.w_len,
       c.loop-turn.invariant.2,
       as_many _ x (4 * t + 20) (4 * (t + 1) + 16) (omega arith) more,
       four_more _ x (4 * t) (4 * (t + 1)) (4 * t + 20) _ _ _ (omega arith) (omega arith) more c.four-s.ensures c.loop-turn.invariant.4,
