@@ -1,0 +1,33 @@
+-- SIGNED_DATA, if its value is what it holds with content or without.
+use mathlib.Core.Path.{refl, sym, ◌∙◌}
+use mathlib.Core.Bool.{true, false}
+use native.Mathlib.Omega.{arith}
+use borrow.Author.Tests.{not-true, not-false}
+use Rattle.layouts.proofs.PlaceLaws.{tlv-before}
+use Rattle.layouts.proofs.LeafLaws.{more-nowhere, more_asked}
+use borrow.Author.Rules.{rules}
+use Rattle.layouts.proofs.after_signed.Goals as goal
+
+pub returns-then-s-end : goal.returns-then-s-end
+returns-then-s-end c = sym (more-nowhere _ _ _ _ _ c.after_tag-end.ensures (λ v h. refl) c.if-s-end.true)
+
+pub overflow_add-at : goal.overflow_add-at
+overflow_add-at c = omega (arith, (tlv-before c.if-s-end.false _ _ c.after_tag-end.ensures).0)
+
+pub slice_bounds-is_signed_data-count : goal.slice_bounds-is_signed_data-count
+slice_bounds-is_signed_data-count c = omega (arith, (tlv-before c.if-s-end.false _ _ c.after_tag-end.ensures).0)
+
+pub slice_bounds-is_signed_data-start : goal.slice_bounds-is_signed_data-start
+slice_bounds-is_signed_data-start c = omega (arith, (tlv-before c.if-s-end.false _ _ c.after_tag-end.ensures).0)
+
+pub returns-then-not-is_signed_data : goal.returns-then-not-is_signed_data
+returns-then-not-is_signed_data c =
+    sym
+    (more_asked _ _ _ _ _ c.after_tag-end.ensures false c.if-s-end.false
+    (sym c.is_signed_data.ensures ∙ not-true _ c.if-not-is_signed_data.true-raw))
+
+pub returns : goal.returns
+returns c =
+    sym
+    (more_asked _ _ _ _ _ c.after_tag-end.ensures true c.if-s-end.false
+    (sym c.is_signed_data.ensures ∙ not-false _ c.if-not-is_signed_data.false-raw))
