@@ -21,7 +21,7 @@ use Rattle.tlv.proofs.NumberLaws.{number-add, num-between}
 use Rattle.tlv.proofs.HeadLaws.{IsTlv, head_tlv, tlv-is, length_part}
 use Rattle.layouts.specs.Places.{nowhere, reads_at, past_head, after_tlv, obeys, after_rule, after_field, in_head, in_group}
 use Rattle.layouts.specs.Groups.{signed_fields, signed_rest, is_signed_data}
-use Rattle.layouts.proofs.PlaceLaws.{past_head, found_if, from_front, then-field, tlv-before}
+use Rattle.layouts.proofs.PlaceLaws.{past_head_lem, found_if, from_front, then-field, tlv-before}
 
 -- ---- a TLV by its tag
 
@@ -47,7 +47,7 @@ module _ (t : ℕ) (p : List ℕ → Bool) (s : List ℕ) (at : ℕ) where
 
   pub tlv_here : {tag len : ℕ} → tag ≡ num_at 2 s at → tag ≡ t → len ≡ num_at 2 s (at + 2) → at + 4 + len ≤ length s
       → p (between s (at + 4) (at + 4 + len)) ≡ true → after_tlv t p s at ≡ at + 4 + len
-  tlv_here e k d h v = past_head t p s at (head_tlv s at _ _ e d h) ∙ simp (eq-eqb _ _ k, v)
+  tlv_here e k d h v = past_head_lem t p s at (head_tlv s at _ _ e d h) ∙ simp (eq-eqb _ _ k, v)
 
 module _ (t : ℕ) (s : List ℕ) (at : ℕ) where
   -- its value's place, by whether it ends with the stretch
@@ -79,7 +79,7 @@ module _ (t : ℕ) (p q : List ℕ → Bool) (s : List ℕ) (at : ℕ) {end : �
 
   -- where something does, b is what the second gives
   pub more_asked : (b : Bool) → end ≤ length s → q (between s (at + 4) end) ≡ b → after_tlv t q s at ≡ cond b end (nowhere s)
-  more_asked b h k = past_head t q s at (is_head (tlv-before h t p e).0) ∙ simp (eq-eqb t t refl, k)
+  more_asked b h k = past_head_lem t q s at (is_head (tlv-before h t p e).0) ∙ simp (eq-eqb t t refl, k)
 
 -- ---- a value's size
 

@@ -5,7 +5,6 @@ use native.Mathlib.Nat.{pos_of_ne-zero}
 use native.Mathlib.Omega.{arith}
 use borrow.Author.Tests.{lt-ltb, le-ltb}
 use Rattle.layouts.proofs.LeafLaws.{rule-nowhere, rule_asked, sized-stands, count-is}
-use borrow.Author.Rules.{rules}
 use Rattle.layouts.proofs.after_count.Goals as goal
 
 pub returns-then-s-end : goal.returns-then-s-end

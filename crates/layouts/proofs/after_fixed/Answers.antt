@@ -4,7 +4,6 @@ use mathlib.Core.Bool.{true, false}
 use native.Mathlib.Omega.{arith}
 use borrow.Author.Tests.{not-true, not-false}
 use Rattle.layouts.proofs.LeafLaws.{rule-nowhere, rule_asked, sized-stands}
-use borrow.Author.Rules.{rules}
 use Rattle.layouts.proofs.after_fixed.Goals as goal
 
 pub returns-then-s-end : goal.returns-then-s-end

@@ -1,5 +1,4 @@
 -- The size of the hash, with content or without.
-use borrow.Author.Rules.{rules}
 use Rattle.layouts.proofs.after_hash.Goals as goal
 
 pub returns-then-content : goal.returns-then-content

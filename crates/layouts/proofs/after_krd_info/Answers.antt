@@ -4,7 +4,6 @@ use mathlib.Core.Bool.{true, false}
 use native.Mathlib.Omega.{arith}
 use borrow.Author.Tests.{eq-eqb, ne_eqb}
 use Rattle.layouts.proofs.LeafLaws.{rule-nowhere, rule_asked, sized-stands, mode_at}
-use borrow.Author.Rules.{rules}
 use Rattle.layouts.proofs.after_krd_info.Goals as goal
 
 pub returns-then-s-end : goal.returns-then-s-end

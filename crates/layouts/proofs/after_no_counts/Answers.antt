@@ -5,7 +5,6 @@ use native.Mathlib.Omega.{arith}
 use borrow.Author.Tests.{eq-eqb, ne_eqb}
 use Rattle.model.specs.Tlv.{le}
 use Rattle.layouts.proofs.LeafLaws.{rule-nowhere, rule_asked, sized-stands, counts_are}
-use borrow.Author.Rules.{rules}
 use Rattle.layouts.proofs.after_no_counts.Goals as goal
 
 pub returns-then-s-end : goal.returns-then-s-end

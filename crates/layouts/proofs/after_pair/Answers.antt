@@ -5,7 +5,6 @@ use native.Mathlib.Omega.{arith}
 use borrow.Author.Tests.{not-true, not-false}
 use Rattle.layouts.proofs.PlaceLaws.{tlv-before}
 use Rattle.layouts.proofs.LeafLaws.{more-nowhere, more_asked}
-use borrow.Author.Rules.{rules}
 use Rattle.layouts.proofs.after_pair.Goals as goal
 
 pub returns-then-s-end : goal.returns-then-s-end

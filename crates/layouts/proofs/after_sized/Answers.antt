@@ -2,7 +2,6 @@
 use mathlib.Core.Path.{sym, ◌∙◌}
 use native.Mathlib.Omega.{arith}
 use Rattle.layouts.proofs.LeafLaws.{sized_none, sized_here}
-use borrow.Author.Rules.{rules}
 use Rattle.layouts.proofs.after_sized.Goals as goal
 
 pub returns-then-s-at : goal.returns-then-s-at

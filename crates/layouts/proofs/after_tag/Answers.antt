@@ -2,7 +2,6 @@
 use mathlib.Core.Path.{refl, sym, ◌∙◌}
 use native.Mathlib.Omega.{arith}
 use Rattle.layouts.proofs.LeafLaws.{tlv_none, tlv_here}
-use borrow.Author.Rules.{rules}
 use Rattle.layouts.proofs.after_tag.Goals as goal
 
 pub returns-then-s-at : goal.returns-then-s-at

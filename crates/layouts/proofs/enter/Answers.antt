@@ -4,7 +4,6 @@ use native.Mathlib.Omega.{arith}
 use borrow.Author.Tests.{eq-eqb, ne_eqb}
 use Rattle.layouts.proofs.PlaceLaws.{tlv-before}
 use Rattle.layouts.proofs.LeafLaws.{in_last}
-use borrow.Author.Rules.{rules}
 use Rattle.layouts.proofs.enter.Goals as goal
 
 pub returns-then-end-s : goal.returns-then-end-s

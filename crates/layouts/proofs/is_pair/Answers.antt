@@ -1,6 +1,5 @@
 -- A name and a KeyID, and the end.
 use Rattle.layouts.proofs.PlaceLaws.{from_front, then-field, then_end}
-use borrow.Author.Rules.{rules}
 use Rattle.layouts.proofs.is_pair.Goals as goal
 
 pub returns : goal.returns

@@ -1,6 +1,5 @@
 -- The four children of a stored record in their order, and the end.
 use Rattle.layouts.proofs.PlaceLaws.{from_front, then-field, then_end}
-use borrow.Author.Rules.{rules}
 use Rattle.layouts.proofs.is_record.Goals as goal
 
 pub returns : goal.returns

@@ -2,7 +2,6 @@
 use mathlib.Core.Path.{refl, sym, ◌∙◌}
 use native.Mathlib.Omega.{arith}
 use Rattle.layouts.proofs.LeafLaws.{sized-stands, signed_none, signed-other, signed-mode}
-use borrow.Author.Rules.{rules}
 use Rattle.layouts.proofs.is_signed_data.Goals as goal
 
 pub returns-then-s-a2 : goal.returns-then-s-a2

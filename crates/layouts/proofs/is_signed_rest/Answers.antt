@@ -1,6 +1,5 @@
 -- Five fields in their order, one of them by whether there is content, and the end.
 use Rattle.layouts.proofs.PlaceLaws.{then-field, then_end}
-use borrow.Author.Rules.{rules}
 use Rattle.layouts.proofs.is_signed_rest.Goals as goal
 
 pub returns : goal.returns
