@@ -33,6 +33,7 @@ fn is_tail(s: &[u8], at: usize) -> bool
 }
 
 // The place after the character at a place; the same place where none stands.
+#[tactic(auto, using(crate::proofs::CharLaws::none_first))]
 fn after_char(s: &[u8], at: usize) -> usize
     requires { at < length s.now }
     ensures { Reached s.now at result }

@@ -6,7 +6,7 @@ use native.Mathlib.Omega.{arith}
 use lib.ListN.{length, get_or}
 use Rattle.model.specs.Utf8.{within, tail}
 use Rattle.utf8.specs.Places.{barred}
-use Rattle.utf8.proofs.CharLaws.{tail-inside, none_first, none-second, none-barred, none-third, none-past, none-fourth, reached_one, reached-two, reached-three, reached-four}
+use Rattle.utf8.proofs.CharLaws.{tail-inside, none-second, none-barred, none-third, none-past, none-fourth, reached_one, reached-two, reached-three, reached-four}
 use Rattle.utf8.proofs.after_char.Goals as goal
 use Rattle.utf8.proofs.after_char.Goals.{Else-is_barred, Else-not-is_tail, Else-not-is_tail-2, Else-not-is_tail-3}
 
@@ -35,9 +35,6 @@ fourth-in c = let a = c.args in tail-inside a.s.now (a.at + 3) (fourth c)
 pub returns-then-a-lt128 : goal.returns-then-a-lt128
 returns-then-a-lt128 c = reached_one _ _ c.requires c.if-a-lt128.true
 
-pub returns-then-a-lt194 : goal.returns-then-a-lt194
-returns-then-a-lt194 c = none_first _ _ c.requires c.if-a-lt128.false (omega (arith, c.if-a-lt194.true))
-
 pub returns-then-not-is_tail : goal.returns-then-not-is_tail
 returns-then-not-is_tail c =
     none-second _ _ c.requires c.if-a-lt128.false
@@ -47,7 +44,7 @@ pub overflow_add-result-then-a-lt224 : goal.overflow_add-result-then-a-lt224
 overflow_add-result-then-a-lt224 c = omega (arith, second-in (goal.at.overflow_add-result-then-a-lt224 c).Else-not-is_tail)
 
 pub returns-then-a-lt224 : goal.returns-then-a-lt224
-returns-then-a-lt224 c = reached-two _ _ c.requires (second (goal.at.returns-then-a-lt224 c).Else-not-is_tail) c.if-a-lt194.false c.if-a-lt224.true
+returns-then-a-lt224 c = reached-two _ _ c.requires (second (goal.at.returns-then-a-lt224 c).Else-not-is_tail) (omega arith) c.if-a-lt224.true
 
 pub bounds-s-at-2 : goal.bounds-s-at-2
 bounds-s-at-2 c = second-in (goal.at.bounds-s-at-2 c).Else-not-is_tail
