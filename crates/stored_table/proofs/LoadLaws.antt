@@ -29,7 +29,7 @@ use Rattle.tlv.specs.declared.heads.Head.{Head}
 use Rattle.tlv.specs.declared.heads.Head.TheVariants.{Tlv as Found, Bad, End}
 use Rattle.tlv.proofs.HeadLaws.{IsTlv, tlv-is, end_is, head_end, run_end, run_bad, run-tlv, length_part}
 use Rattle.layouts.specs.Places.{after_group}
-use Rattle.layouts.proofs.PlaceLaws.{past_head, tlv-before}
+use Rattle.layouts.proofs.PlaceLaws.{past_head_lem, tlv-before}
 use Rattle.stored_table.specs.Stored.{mixed_at, table_in, starts}
 use Rattle.stored_table.specs.Index.{is_stored, few_distinct, IndexIs}
 use Rattle.stored_table.proofs.IndexLaws.{Located, located, located_stand, located_keys, located_mixed, stand_within}
@@ -204,7 +204,7 @@ module _ {s places : List ℕ} {n place : ℕ} (p : Loading s places n place) wh
           (λ tag start stop d us. let v = between s start stop in
           let i = tlv-is s place tag start stop d in
           split (eqb tag pair_tag && reads record_fields v)
-          (λ b. let q : to ≡ stop = e ∙ past_head pair_tag (reads record_fields) s place d ∙ rw b in absurd (omega (arith, i)))
+          (λ b. let q : to ≡ stop = e ∙ past_head_lem pair_tag (reads record_fields) s place d ∙ rw b in absurd (omega (arith, i)))
           (λ b. rw (not-all p.run (tlv tag v) us (stored_is tag v ∙ b))))
 
       pub load-more : (n ≡ 32 → ⊥) → to ≤ length s → Loading s (set places n place) (n + 1) to

@@ -1,7 +1,5 @@
-use Prim.Native.Nat.{◌-◌}
 use native.Mathlib.Nat.{sub-zero}
-use borrow.Author.Rules.{rules}
-use Rattle.stored_table.proofs.LoadLaws.{Loaded, loaded_within, loaded_are, none_are, Loading, loading, load-end, load-bad, load_full, load-more}
+use Rattle.stored_table.proofs.LoadLaws.{Loaded, loaded_within, loaded_are, none_are, loading, load-end, load-bad, load_full, load-more}
 use Rattle.stored_table.proofs.index.index_of.Goals as goal
 use Rattle.stored_table.proofs.index.index_of.Goals.{After-all-2-1}
 
@@ -23,7 +21,7 @@ loop-at-preserved c =
 loaded : (c : After-all-2-1) → let l = c.loop-at in
     Loaded c.args.table.now l.places l.len
 loaded c =
-    load-end c.loop-at.invariant c.all-2-1.given.0 c.shared_slice_known-1.given c.loop-at-test.false
+    load-end c.loop-at.invariant c.all-2-1.given c.shared_slice_known-1.given c.loop-at-test.false
 
 pub returns : goal.returns
 returns c = loaded_are (loaded (goal.at.returns c).After-all-2-1) _ (rw sub-zero at c.obeys-ok.ensures)

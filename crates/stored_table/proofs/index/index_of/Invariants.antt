@@ -1,8 +1,6 @@
 -- The first n places are those of the records up to the place after n turns; what stands there is a record more, or there is no table.
 use Prim.Native.Nat.{◌-◌}
-use native.Mathlib.Nat.{sub-zero}
-use borrow.Author.Rules.{rules}
-use Rattle.stored_table.proofs.LoadLaws.{Loaded, loaded_within, loaded_are, none_are, Loading, loading, load-end, load-bad, load_full, load-more}
+use Rattle.stored_table.proofs.LoadLaws.{Loading}
 use Rattle.stored_table.proofs.index.index_of.Given as goal
 
 abbrev pub invariant-loop-at : goal.invariant-loop-at

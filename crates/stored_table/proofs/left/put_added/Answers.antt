@@ -1,6 +1,5 @@
 -- The table's own bytes, then the record's: a table that is not full leaves room for the longest.
 use native.Mathlib.Omega.{arith}
-use borrow.Author.Rules.{rules}
 use Rattle.stored_table.proofs.LeftLaws.{room-more, wrote_added}
 use Rattle.stored_table.proofs.left.put_added.Goals as goal
 
@@ -10,7 +9,10 @@ put_bytes-end-requires c =
 
 pub put_record-requires : goal.put_record-requires
 put_record-requires c =
-    (c.requires.key_id_len.0, omega (arith, room-more _ c.requires.table_value.0 c.requires.table_value.1 c.requires.table_value.2))
+    record {
+      key_id_len = c.requires.key_id_len;
+      name_in_bounds = omega (arith, room-more _ c.requires.table_value.0 c.requires.table_value.1 c.requires.table_value.2);
+    }
 
 pub returns : goal.returns
 returns c =

@@ -1,16 +1,13 @@
-use borrow.Author.Rules.{rules}
 use mathlib.Core.Path.{refl}
-use mathlib.Core.Logic.{⊎_elim}
-use Prim.Native.Nat.{◌-◌, ◌<◌}
+use Prim.Native.Nat.{◌<◌}
 use native.Mathlib.Omega.{arith}
-use lib.ListN.{length, get_or}
+use lib.ListN.{get_or}
 use Rattle.model.proofs.Basics.{both}
-use Rattle.tlv.specs.Rows.{rows}
-use Rattle.stored_table.specs.Stored.{Stands, table_in}
+use Rattle.stored_table.specs.Stored.{Stands}
 use Rattle.stored_table.proofs.IndexLaws.{all_stand}
-use Rattle.stored_table.proofs.LookupLaws.{Choosing, choosing, chosen-all, chosen-not, chosen-room, chosen_more}
+use Rattle.stored_table.proofs.LookupLaws.{choosing, chosen-all, chosen-not, chosen-room, chosen_more}
 use Rattle.stored_table.proofs.lookups.choose.Goals as goal
-use Rattle.stored_table.proofs.lookups.choose.Goals.{After-shared_slice_known-in-loop-i-1, Then-is_given}
+use Rattle.stored_table.proofs.lookups.choose.Goals.{After-shared_slice_known-in-loop-i-1, Then-is_given, then-row_is+then-is_given, then-row_is+else-is_given, else-row_is}
 
 -- the record at hand lies in the stretch
 there : (c : After-shared_slice_known-in-loop-i-1)
@@ -19,7 +16,7 @@ there : (c : After-shared_slice_known-in-loop-i-1)
 there c = (all_stand c.requires.indexed).each _ c.loop-i-test.true
 
 pub loop-i-init : goal.loop-i-init
-loop-i-init c = choosing _ _ _ _ c.requires.within.1
+loop-i-init c = choosing _ _ _ _ c.requires.chosen_len
 
 pub overflow_add-place : goal.overflow_add-place
 overflow_add-place c = omega (arith, there c)
@@ -32,7 +29,10 @@ overflow_add-place-then-row_is c = omega (arith, there (goal.at.overflow_add-pla
 
 pub is_given-requires : goal.is_given-requires
 is_given-requires c =
-    (omega (arith, there (goal.at.is_given-requires c).After-shared_slice_known-in-loop-i-1), c.requires.within.0)
+    record {
+      place_in_bounds = omega (arith, there (goal.at.is_given-requires c).After-shared_slice_known-in-loop-i-1);
+      within = c.requires.within;
+    }
 
 -- both tests passed, so there is room for one more
 room : (c : Then-is_given) → c.loop-i.len < 8
@@ -45,12 +45,13 @@ loop-i-preserved c =
     let x = c.requires.indexed in
     let h = c.loop-i-test.true in
     let own = c.row_is.ensures in
-    ⊎_elim
-    (λ w. rw (w.3, w.4) (chosen_more _ _ x c.loop-i.invariant h _ _ own w.1.ensures (both w.0.taken w.2.taken)))
-    (⊎_elim
-    (λ w. rw (w.3, w.4) (chosen-not _ _ x c.loop-i.invariant h _ _ own w.1.ensures (rw (w.0.taken, w.2.left))))
-    (λ w. rw (w.1, w.2) (chosen-not _ _ x c.loop-i.invariant h _ _ own refl (rw w.0.left))))
-    c.if-row_is.branch
+    elim c.if-row_is.branch [
+      then-row_is+then-is_given w ↦
+        rw (w.chosen-is, w.len-is) (chosen_more _ _ x c.loop-i.invariant h _ _ own w.is_given.ensures (both w.if-row_is.true w.if-is_given.true))
+    | then-row_is+else-is_given w ↦
+        rw (w.chosen-is, w.len-is) (chosen-not _ _ x c.loop-i.invariant h _ _ own w.is_given.ensures (rw (w.if-row_is.true, w.if-is_given.false)))
+    | else-row_is w ↦ rw (w.chosen-is, w.len-is) (chosen-not _ _ x c.loop-i.invariant h _ _ own refl (rw w.if-row_is.false))
+    ]
 
 pub returns : goal.returns
 returns c = chosen-all _ _ c.requires.indexed c.loop-i.invariant c.loop-i-test.false

@@ -1,9 +1,8 @@
-use borrow.Author.Rules.{rules}
 use mathlib.Core.Path.{◌≡◌, sym, ◌∙◌}
 use mathlib.Core.Bool.{Bool, ◌||◌}
-use Prim.Native.Nat.{◌+◌, ◌-◌}
+use Prim.Native.Nat.{◌+◌}
 use native.Mathlib.Nat.{add-zero}
-use lib.ListN.{length, drop}
+use lib.ListN.{drop}
 use Rattle.model.specs.Lists.{among, empty}
 use Rattle.tlv.specs.Rows.{row, rows}
 use Rattle.stored_table.proofs.LookupLaws.{given_none, given_some, given_at, given-end}
@@ -19,7 +18,7 @@ loop-j-init c = given_some _ _ _ c.if-handles-eq0.false
 pub same_row-requires : goal.same_row-requires
 same_row-requires c =
     let p = c.requires in
-    (p.0, rw add-zero at (p.1.each _ c.loop-j-test.true))
+    (p.place_in_bounds, rw add-zero at (p.within.each _ c.loop-j-test.true))
 
 -- at the handle at hand, where b is what its test gave
 at-handle : (c : After-same_row) {b : Bool} → c.same_row.result ≡ b → let a = c.args in
