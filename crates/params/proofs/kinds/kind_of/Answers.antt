@@ -29,4 +29,4 @@ pub returns-in-13318 : goal.returns-in-13318
 returns-in-13318 c = sym (named (goal.at.returns-in-13318 c).After-get16-tag ∙ rw c.in-13318.is)
 
 pub returns-in_default : goal.returns-in_default
-returns-in_default c = sym (named (goal.at.returns-in_default c).After-get16-tag ∙ kind_none _ c.in_default)
+returns-in_default c = sym (named (goal.at.returns-in_default c).After-get16-tag ∙ kind_none _ c.in_default.in_default-own.rest)

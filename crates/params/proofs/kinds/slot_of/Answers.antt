@@ -45,4 +45,4 @@ unfolding slot_of
 returns-in-10241 c = rw c.in-10241.is
 
 pub returns-in_default : goal.returns-in_default
-returns-in_default c = sym (slot_none _ c.in_default)
+returns-in_default c = sym (slot_none _ c.in_default.in_default-own.rest)
