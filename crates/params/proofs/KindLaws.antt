@@ -108,7 +108,7 @@ pub at_kind : (p : model.Kind → ℕ → Bool) → all (λ k. all_below slots (
 at_kind p e k j h = below slots (p k) (go k) j h
   where
     go : (k : model.Kind) → all_below slots (p k) ≡ true
-    go get_info = search (and_left, and_right, e)
+    go get_info = search (and_left, e)
     go register = search (and_left, and_right, e)
     go sign = search (and_left, and_right, e)
     go deregister = search (and_left, and_right, e)

@@ -1,9 +1,6 @@
 use native.Mathlib.Omega.{arith}
-use borrow.Author.Rules.{rules}
 use mathlib.Core.Path.{◌≡◌, refl, sym, ◌∙◌}
-use Prim.Native.Nat.{◌-◌, ◌≤◌}
-use lib.ListN.{length, drop}
-use Rattle.params.specs.Slots.{enough}
+use lib.ListN.{length}
 use Rattle.params.proofs.TimesLaws.{enough-end, enough-few, enough-more}
 use Rattle.params.proofs.children.are_enough.Goals as goal
 use Rattle.params.proofs.children.are_enough.Goals.{In-loop-slot, Start}

@@ -2,7 +2,6 @@
 use mathlib.Core.Path.{◌≡◌, sym, ◌∙◌}
 use Rattle.model.specs.Tlv.{kind_of}
 use Rattle.params.proofs.KindLaws.{kind_with, kind-short, kind-named, kind_none}
-use borrow.Author.Rules.{rules}
 use Rattle.params.proofs.kinds.kind_of.Goals as goal
 use Rattle.params.proofs.kinds.kind_of.Goals.{After-get16-tag}
 

@@ -1,4 +1,4 @@
--- Each tag's slot; any other tag has none.
+-- Each field's tag gives its slot, any other tag none.
 use Rattle.std.proofs.Math.Path.{sym}
 use Rattle.params.specs.Slots.{slot_of}
 use Rattle.params.proofs.KindLaws.{slot_none}

@@ -1,5 +1,4 @@
 -- Each command's lent results are tested as the definition says.
-use borrow.Author.Rules.{rules}
 use mathlib.Core.Path.{◌≡◌, refl, sym, ◌∙◌}
 use mathlib.Core.List.{[]}
 use borrow.Author.Tests.{not-true, not-false}
@@ -15,7 +14,6 @@ profile : (c : Start)
     ≡ profile_ok (lent_of a.aaid.now a.numbers a.metadata.now [] [] [])
 unfolding profile_ok
 profile c = refl
-
 
 pub returns-then-not-profile_ok : goal.returns-then-not-profile_ok
 unfolding lent_ok

@@ -1,5 +1,4 @@
 -- AAID, metadata and the numbers decide, in this order.
-use borrow.Author.Rules.{rules}
 use mathlib.Core.Path.{sym, ◌∙◌}
 use borrow.Author.Tests.{not-true, not-false}
 use Rattle.model.specs.Commands.{profile_ok}

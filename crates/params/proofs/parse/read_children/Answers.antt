@@ -79,14 +79,14 @@ loop-times-preserved-after-slot-eq-KEY_HANDLE c =
     let so_far = c.loop-times.invariant in
     let some : get_or c.listed-listing.result.most c.slot_of-slot.result 0 ≡ 0 → ⊥ = λ z. omega (arith, c.if-at_most-gt0.true) in
     elim c.if-slot-eq-KEY_HANDLE.branch [
-      then-slot-eq-KEY_HANDLE w ↦ (
+      | then-slot-eq-KEY_HANDLE w ↦ (
         rw (w.handles-is, length-set) so_far.0,
         λ k s m f. rw (w.handles-is, w.first-is)
             (noted-handle (past-tlv f i) (so_far.1 k s m f) c.slot_of-slot.ensures
             (ap (λ (r : List ℕ). get_or r c.slot_of-slot.result 0) m) (past_value f i) c.is_taken.ensures c.if-not-is_taken.false-raw
             some w.if-slot-eq-KEY_HANDLE.true),
       )
-    | else-slot-eq-KEY_HANDLE w ↦ (
+      | else-slot-eq-KEY_HANDLE w ↦ (
         rw w.handles-is so_far.0,
         λ k s m f. rw (w.handles-is, w.first-is)
             (noted-first (past-tlv f i) (so_far.1 k s m f) c.slot_of-slot.ensures
