@@ -72,8 +72,8 @@ slot_last slot k = slot_from slot (not-below slot 9 k)
 -- a tag that is none of the fields'
 place_none : {K : Type 0} (tag : ℕ) (fs : List Field) → NoneOf tag_of K tag fs → K × (place_of tag fs ≡ length fs)
 place_none tag [] h = (h, refl)
-place_none tag (f ∷ fs) h =
-    let rest = place_none tag fs h in
+place_none {K = K} tag (f ∷ fs) h =
+    let rest = place_none {K = K × (tag ≡ tag_of f → ⊥)} tag fs h in
     (rest.0.0, rw (ne_eqb (tag_of f) tag (λ e. rest.0.1 (sym e))) (ap suc rest.1))
 
 pub slot_none : (tag : ℕ) → NoneOf tag_of (Unit {0}) tag command_fields → slot_of tag ≡ slots
@@ -108,7 +108,7 @@ pub at_kind : (p : model.Kind → ℕ → Bool) → all (λ k. all_below slots (
 at_kind p e k j h = below slots (p k) (go k) j h
   where
     go : (k : model.Kind) → all_below slots (p k) ≡ true
-    go get_info = search (and_left, and_right, e)
+    go get_info = search (and_left, e)
     go register = search (and_left, and_right, e)
     go sign = search (and_left, and_right, e)
     go deregister = search (and_left, and_right, e)

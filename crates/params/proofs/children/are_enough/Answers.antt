@@ -1,9 +1,6 @@
 use native.Mathlib.Omega.{arith}
-use borrow.Author.Rules.{rules}
 use mathlib.Core.Path.{◌≡◌, refl, sym, ◌∙◌}
-use Prim.Native.Nat.{◌-◌, ◌≤◌}
-use lib.ListN.{length, drop}
-use Rattle.params.specs.Slots.{enough}
+use lib.ListN.{length}
 use Rattle.params.proofs.TimesLaws.{enough-end, enough-few, enough-more}
 use Rattle.params.proofs.children.are_enough.Goals as goal
 use Rattle.params.proofs.children.are_enough.Goals.{In-loop-slot, Start}
@@ -12,7 +9,7 @@ pub loop-slot-init : goal.loop-slot-init
 loop-slot-init c = (omega arith, refl)
 
 -- both arrays have as many places
-lengths : (c : Start) → (length c.args.t2 ≡ 11) × (length c.args.t1 ≡ 11)
+lengths : (c : Start) → (length c.args.least ≡ 11) × (length c.args.times ≡ 11)
 lengths c = (c.well_formed.1.0.1.0.1, c.well_formed.0.1.0.1)
 
 pub returns-then-times-slot : goal.returns-then-times-slot

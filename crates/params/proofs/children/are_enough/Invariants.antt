@@ -1,11 +1,8 @@
 -- After each turn the slots gone through were given as often as they must be, so the rest decides.
-use native.Mathlib.Omega.{arith}
-use borrow.Author.Rules.{rules}
-use mathlib.Core.Path.{◌≡◌, refl, sym, ◌∙◌}
+use mathlib.Core.Path.{◌≡◌}
 use Prim.Native.Nat.{◌-◌, ◌≤◌}
-use lib.ListN.{length, drop}
+use lib.ListN.{drop}
 use Rattle.params.specs.Slots.{enough}
-use Rattle.params.proofs.TimesLaws.{enough-end, enough-few, enough-more}
 use Rattle.params.proofs.children.are_enough.Given as goal
 
 abbrev pub invariant-loop-slot : goal.invariant-loop-slot

@@ -1,5 +1,4 @@
 -- One that may not be given goes by whether it may be skipped, any other by the number and the rule.
-use borrow.Author.Rules.{rules}
 use borrow.Author.Tests.{eq-eqb, ne_eqb, lt-ltb, le-ltb}
 use Rattle.params.specs.Children.{child_taken}
 use Rattle.params.proofs.children.is_taken.Goals as goal

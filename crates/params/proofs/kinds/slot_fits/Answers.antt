@@ -5,7 +5,6 @@ use mathlib.Core.Bool.{true, ◌&&◌}
 use mathlib.Core.List.{[], ◌∷◌}
 use lib.ListN.{length}
 use lib.Dec.{leb}
-use borrow.Author.Rules.{rules}
 use borrow.Author.Tests.{leb-true, eq-eqb, ne_eqb, not-false}
 use Rattle.model.specs.Lists.{eq_bytes}
 use Rattle.model.specs.Tlv.{fits, rule_of}

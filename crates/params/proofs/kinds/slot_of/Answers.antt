@@ -1,38 +1,48 @@
 -- Each field's tag gives its slot, any other tag none.
-use mathlib.Core.Path.{sym}
+use Rattle.std.proofs.Math.Path.{sym}
 use Rattle.params.specs.Slots.{slot_of}
 use Rattle.params.proofs.KindLaws.{slot_none}
 use Rattle.params.proofs.kinds.slot_of.Goals as goal
 
 pub returns-in-10253 : goal.returns-in-10253
-returns-in-10253 c = unfold slot_of in rw c.in-10253.keys1
+unfolding slot_of
+returns-in-10253 c = rw c.in-10253.is
 
 pub returns-in-10244 : goal.returns-in-10244
-returns-in-10244 c = unfold slot_of in rw c.in-10244.keys2
+unfolding slot_of
+returns-in-10244 c = rw c.in-10244.is
 
 pub returns-in-11786 : goal.returns-in-11786
-returns-in-11786 c = unfold slot_of in rw c.in-11786.keys3
+unfolding slot_of
+returns-in-11786 c = rw c.in-11786.is
 
 pub returns-in-10246 : goal.returns-in-10246
-returns-in-10246 c = unfold slot_of in rw c.in-10246.keys4
+unfolding slot_of
+returns-in-10246 c = rw c.in-10246.is
 
 pub returns-in-10247 : goal.returns-in-10247
-returns-in-10247 c = unfold slot_of in rw c.in-10247.keys5
+unfolding slot_of
+returns-in-10247 c = rw c.in-10247.is
 
 pub returns-in-10256 : goal.returns-in-10256
-returns-in-10256 c = unfold slot_of in rw c.in-10256.keys6
+unfolding slot_of
+returns-in-10256 c = rw c.in-10256.is
 
 pub returns-in-11785 : goal.returns-in-11785
-returns-in-11785 c = unfold slot_of in rw c.in-11785.keys7
+unfolding slot_of
+returns-in-11785 c = rw c.in-11785.is
 
 pub returns-in-10245 : goal.returns-in-10245
-returns-in-10245 c = unfold slot_of in rw c.in-10245.keys8
+unfolding slot_of
+returns-in-10245 c = rw c.in-10245.is
 
 pub returns-in-10243 : goal.returns-in-10243
-returns-in-10243 c = unfold slot_of in rw c.in-10243.keys9
+unfolding slot_of
+returns-in-10243 c = rw c.in-10243.is
 
 pub returns-in-10241 : goal.returns-in-10241
-returns-in-10241 c = unfold slot_of in rw c.in-10241.keys10
+unfolding slot_of
+returns-in-10241 c = rw c.in-10241.is
 
 pub returns-in_default : goal.returns-in_default
-returns-in_default c = sym (slot_none _ c.in_default.rest)
+returns-in_default c = sym (slot_none _ c.in_default.in_default-own.rest)

@@ -1,5 +1,4 @@
 -- Each command's lent results are tested as the definition says.
-use borrow.Author.Rules.{rules}
 use mathlib.Core.Path.{◌≡◌, refl, sym, ◌∙◌}
 use mathlib.Core.List.{[]}
 use borrow.Author.Tests.{not-true, not-false}
@@ -11,43 +10,40 @@ use Rattle.params.proofs.lent.lent_ok.Goals.{Start}
 -- the profile's test looks at nothing else
 profile : (c : Start)
     → let a = c.args in
-    profile_ok (lent_of a.aaid.now a.numbers a.metadata.now a.key-id.now a.public-key.now a.nonce.now)
+    profile_ok (lent_of a.aaid.now a.numbers a.metadata.now a.key_id.now a.public_key.now a.nonce.now)
     ≡ profile_ok (lent_of a.aaid.now a.numbers a.metadata.now [] [] [])
 unfolding profile_ok
 profile c = refl
 
-pub enum_told-1 : goal.enum_told-1
-enum_told-1 c = search rules
-
 pub returns-then-not-profile_ok : goal.returns-then-not-profile_ok
 unfolding lent_ok
 returns-then-not-profile_ok c =
-    rw (c.enum_told-in-Register-1.given.1, profile (goal.at.returns-then-not-profile_ok c).Start ∙ sym c.profile_ok-in-Register.ensures ∙ not-true _ c.if-not-profile_ok.true-raw)
+    rw (c.in-Register.is, profile (goal.at.returns-then-not-profile_ok c).Start ∙ sym c.profile_ok-in-Register.ensures ∙ not-true _ c.if-not-profile_ok.true-raw)
 
 pub returns-then-not-profile_ok-2 : goal.returns-then-not-profile_ok-2
 unfolding lent_ok
 returns-then-not-profile_ok-2 c =
-    rw (c.enum_told-in-Sign-1.given.1, profile (goal.at.returns-then-not-profile_ok-2 c).Start ∙ sym c.profile_ok-in-Sign.ensures ∙ not-true _ c.if-not-profile_ok-2.true-raw)
+    rw (c.in-Sign.is, profile (goal.at.returns-then-not-profile_ok-2 c).Start ∙ sym c.profile_ok-in-Sign.ensures ∙ not-true _ c.if-not-profile_ok-2.true-raw)
 
 pub returns-in-GetInfo : goal.returns-in-GetInfo
 unfolding lent_ok
 returns-in-GetInfo c =
-    rw (c.enum_told-1.given.1, profile (goal.at.returns-in-GetInfo c).Start) c.profile_ok.ensures
+    rw (c.in-GetInfo.is, profile (goal.at.returns-in-GetInfo c).Start) c.profile_ok.ensures
 
 pub returns-else-not-profile_ok : goal.returns-else-not-profile_ok
 unfolding lent_ok
 returns-else-not-profile_ok c =
-    rw (c.enum_told-in-Register-1.given.1, profile (goal.at.returns-else-not-profile_ok c).Start ∙ sym c.profile_ok-in-Register.ensures ∙ not-false _ c.if-not-profile_ok.false-raw) c.register_ok.ensures
+    rw (c.in-Register.is, profile (goal.at.returns-else-not-profile_ok c).Start ∙ sym c.profile_ok-in-Register.ensures ∙ not-false _ c.if-not-profile_ok.false-raw) c.register_ok.ensures
 
 pub returns-else-not-profile_ok-2 : goal.returns-else-not-profile_ok-2
 unfolding lent_ok
 returns-else-not-profile_ok-2 c =
-    rw (c.enum_told-in-Sign-1.given.1, profile (goal.at.returns-else-not-profile_ok-2 c).Start ∙ sym c.profile_ok-in-Sign.ensures ∙ not-false _ c.if-not-profile_ok-2.false-raw) c.sign_ok.ensures
+    rw (c.in-Sign.is, profile (goal.at.returns-else-not-profile_ok-2 c).Start ∙ sym c.profile_ok-in-Sign.ensures ∙ not-false _ c.if-not-profile_ok-2.false-raw) c.sign_ok.ensures
 
 pub returns-in-Deregister : goal.returns-in-Deregister
 unfolding lent_ok
-returns-in-Deregister c = rw c.enum_told-in-Deregister-1.given.1
+returns-in-Deregister c = rw c.in-Deregister.is
 
 pub returns-in-OpenSettings : goal.returns-in-OpenSettings
 unfolding lent_ok
-returns-in-OpenSettings c = rw c.enum_told-in-OpenSettings-1.given.1
+returns-in-OpenSettings c = rw c.in-OpenSettings.is

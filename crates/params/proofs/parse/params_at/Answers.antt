@@ -1,6 +1,5 @@
 -- Where a slot was given too seldom the command is broken; else its fields stand where it was noted.
 use mathlib.Core.Path.{sym, ◌∙◌}
-use borrow.Author.Rules.{rules}
 use borrow.Author.Tests.{not-true, not-false}
 use Rattle.params.specs.Parse.{params_at}
 use Rattle.params.proofs.parse.params_at.Goals as goal

@@ -6,7 +6,6 @@ use lib.ListN.{length}
 use borrow.Author.Tests.{not-true, not-false}
 use Rattle.model.specs.Tlv.{fills}
 use Rattle.params.proofs.ParseLaws.{rest_part, whole-place, broken_long, broken-cut, read_broken}
-use borrow.Author.Rules.{rules}
 use Rattle.params.proofs.parse.params_of.Goals as goal
 use Rattle.params.proofs.parse.params_of.Goals.{Else-not-is_whole}
 
