@@ -1,0 +1,20 @@
+-- The opening says the length of all, and four fields and the key handles follow.
+use native.Mathlib.Omega.{arith}
+use borrow.Author.Rules.{rules}
+use Rattle.model.specs.Tlv.{sign}
+use Rattle.tlv.proofs.WriteLaws.{then_run}
+use Rattle.command_writer.proofs.PartLaws.{opened}
+use Rattle.command_writer.proofs.writers.put_sign.Goals as goal
+use Rattle.command_writer.proofs.writers.put_sign.Goals.{After-put_marked-arg-1}
+
+pub put_handles-requires : goal.put_handles-requires
+put_handles-requires c =
+    (c.requires.handles_len, omega (arith, (goal.at.put_handles-requires c).After-put_marked-arg-1))
+
+pub returns : goal.returns
+returns c =
+    opened sign _ _ c.put_opening-a1.ensures
+    (then_run _ _ c.put_tlv-a2.ensures
+    (then_run _ _ c.put_marked-a3.ensures
+    (then_run _ _ c.put_tlv-a4.ensures (then_run _ _ c.put_marked-a5.ensures c.put_handles.ensures))))
+    (omega (arith, c.requires))

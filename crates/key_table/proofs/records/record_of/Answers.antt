@@ -1,0 +1,6 @@
+-- Each array holds its field.
+use borrow.Author.Rules.{rules}
+use Rattle.key_table.proofs.records.record_of.Goals as goal
+
+pub returns : goal.returns
+returns c = cc (c.copy32-k.ensures, c.copy32-m.ensures, c.copy_name-n.ensures)

@@ -1,0 +1,27 @@
+-- The header says four bytes less than len, and the seven fields take as many, whether there is content or not.
+use mathlib.Core.Logic.{⊎_elim}
+use native.Mathlib.Omega.{arith}
+use borrow.Author.Rules.{rules}
+use Rattle.replies.proofs.WriterLaws.{wrote-signed}
+use Rattle.replies.proofs.drafts.put_signed_data.Goals as goal
+use Rattle.replies.proofs.drafts.put_signed_data.Goals.{After-out-2-1, After-put_tlv-arg-2-1, After-put_tlv-arg-3-1, After-slice_known-6-1}
+
+pub returns : goal.returns
+returns c =
+    wrote-signed c.args.content _ c.args.numbers _ _ _ _ c.args.count
+    (⊎_elim (λ w. rw w.0.taken w.1) (λ w. rw w.0.left w.1) c.if-content.branch) c.requires.aaid_len.0 c.requires.aaid_len.3 c.requires.len_value.0
+    c.put_header-a1.ensures c.put_tlv-a2.ensures c.put_signed_info-a3.ensures c.put_tlv-a4.ensures c.put_tlv-a5.ensures
+    c.put_content_hash-a6.ensures c.put_tlv-a7.ensures c.put_tlv32.ensures
+
+pub put_content_hash-a6-requires : goal.put_content_hash-a6-requires
+put_content_hash-a6-requires c =
+    omega (arith, (goal.at.put_content_hash-a6-requires c).After-out-2-1)
+
+pub put_tlv-a7-requires : goal.put_tlv-a7-requires
+put_tlv-a7-requires c = omega (arith, (goal.at.put_tlv-a7-requires c).After-put_tlv-arg-2-1)
+
+pub put_tlv32-requires : goal.put_tlv32-requires
+put_tlv32-requires c = omega (arith, (goal.at.put_tlv32-requires c).After-put_tlv-arg-3-1)
+
+pub shape_of-out : goal.shape_of-out
+shape_of-out c = omega (arith, (goal.at.shape_of-out c).After-slice_known-6-1)

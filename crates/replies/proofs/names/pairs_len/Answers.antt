@@ -1,0 +1,69 @@
+use mathlib.Core.Path.{◌≡◌, refl, sym}
+use Prim.Native.Nat.{ℕ, ◌+◌, ◌-◌, ◌≤◌, ◌<◌}
+use native.Mathlib.Omega.{arith}
+use lib.ListN.{length, get_or, take}
+use lib.Seq.{take_all}
+use borrow.Author.Rules.{rules}
+use Rattle.stored_table.specs.Stored.{table_in}
+use Rattle.stored_table.specs.Chosen.{records_at}
+use Rattle.stored_table.proofs.IndexLaws.{few-places}
+use Rattle.replies.specs.Replies.{pairs_size}
+use Rattle.replies.proofs.PairLaws.{size-more, size-part, named-most, named-place, named-there}
+use Rattle.replies.proofs.names.pairs_len.Goals as goal
+use Rattle.replies.proofs.names.pairs_len.Goals.{After-shared_slice_known-in-loop-i-1}
+
+pub loop-i-init : goal.loop-i-init
+loop-i-init c = (search rules, refl)
+
+-- the record at hand has a place
+place : (c : After-shared_slice_known-in-loop-i-1) → let a = c.args in
+    get_or a.named.now c.loop-i.i 0 < length a.places.now
+place c =
+    named-place c.requires.indexed c.requires.chosen_of c.loop-i.i c.loop-i-test.true
+
+pub offset_bounds-named-i : goal.offset_bounds-named-i
+offset_bounds-named-i c = omega (arith, c.requires.chosen_of.few)
+
+pub offset_bounds-places-record : goal.offset_bounds-places-record
+offset_bounds-places-record c = omega (arith, few-places c.requires.indexed, place c)
+
+pub name_len-requires : goal.name_len-requires
+name_len-requires c =
+    (named-there c.requires.indexed c.requires.chosen_of c.loop-i.i c.loop-i-test.true).stands
+
+-- one record more is counted, and all are few
+module _ (c : tie.After-name-len invariant-loop decreases-loop) where
+  abbrev s : tie.Start invariant-loop decreases-loop
+  s = c.before.before.before.before.before.before.before.before
+
+  abbrev i : ℕ
+  i = c.before.before.before.before.loop.i
+
+  abbrev h : i < length s.args.named.now
+  h = c.before.before.before.loop-test.true
+
+  counted : pairs_size (records_at (table_in s.args.table.now) (take (i + 1) s.args.named.now))
+      ≡ c.before.before.before.before.loop.len + (44 + c.name-len.result)
+  counted =
+      let there = named-there s.pre.0 s.pre.1 i h in
+      omega (arith, c, size-more (table_in s.args.table.now) s.args.named.now i h there)
+
+  small : c.before.before.before.before.loop.len + (44 + c.name-len.result) ≤ 1376
+  small =
+      let part = size-part (table_in s.args.table.now) s.args.named.now (i + 1) (omega (arith, h)) in
+      omega (arith, counted, part, named-most s.pre.0 s.pre.1)
+
+pub loop-i-preserved : goal.loop-i-preserved
+loop-i-preserved c = (search rules, sym (counted c))
+
+pub returns : goal.returns
+returns c = rw (take_all c.loop-i.i _ c.loop-i-test.false) at c.loop-i.invariant.1
+
+pub bounds-places-record : goal.bounds-places-record
+bounds-places-record c = place (goal.at.bounds-places-record c).After-shared_slice_known-in-loop-i-1
+
+pub overflow_add-len : goal.overflow_add-len
+overflow_add-len c = omega (arith, small c)
+
+pub overflow_add-len-in-loop-i : goal.overflow_add-len-in-loop-i
+overflow_add-len-in-loop-i c = omega (arith, small c)

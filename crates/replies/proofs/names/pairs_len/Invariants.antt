@@ -1,0 +1,19 @@
+-- After i turns the pairs of the first i records are counted.
+use mathlib.Core.Path.{◌≡◌, refl, sym}
+use Prim.Native.Nat.{ℕ, ◌+◌, ◌-◌, ◌≤◌, ◌<◌}
+use native.Mathlib.Omega.{arith}
+use lib.ListN.{length, get_or, take}
+use lib.Seq.{take_all}
+use borrow.Author.Rules.{rules}
+use Rattle.stored_table.specs.Stored.{table_in}
+use Rattle.stored_table.specs.Chosen.{records_at}
+use Rattle.stored_table.proofs.IndexLaws.{few-places}
+use Rattle.replies.specs.Replies.{pairs_size}
+use Rattle.replies.proofs.PairLaws.{size-more, size-part, named-most, named-place, named-there}
+use Rattle.replies.proofs.names.pairs_len.Given as goal
+
+abbrev pub invariant-loop-i : goal.invariant-loop-i
+invariant-loop-i l = (l.i ≤ length l.named) × (l.len ≡ pairs_size (records_at (table_in l.table) (take l.i l.named)))
+
+abbrev pub decreases-loop-i : goal.decreases-loop-i
+decreases-loop-i l = length l.named - l.i
