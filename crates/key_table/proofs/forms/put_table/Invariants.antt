@@ -12,7 +12,7 @@ use Rattle.key_table.proofs.StoreLaws.{stored_none, stored_more, stored-all}
 use Rattle.key_table.proofs.forms.put_table.Given as goal
 
 abbrev pub invariant-loop-i : goal.invariant-loop-i
-invariant-loop-i l = 
+invariant-loop-i l =
     (l.i ≤ l.n) × (l.n ≤ 32) × (length l.out ≡ length l.initial.out) × (l.at ≤ 216 * l.i) × Wrote l.initial.out 0 (encode (take l.i (view_table l.t))) l.at l.out l.at
 
 abbrev pub decreases-loop-i : goal.decreases-loop-i

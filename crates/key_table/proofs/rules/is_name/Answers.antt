@@ -1,7 +1,6 @@
 -- The part is as long as it says.
 use mathlib.Core.Path.{sym}
 use lib.Seq.{length-take-le}
-use borrow.Author.Rules.{rules}
 use Rattle.key_table.proofs.rules.is_name.Goals as goal
 
 pub slice_bounds-is_username-end : goal.slice_bounds-is_username-end

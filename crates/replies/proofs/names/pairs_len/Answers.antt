@@ -1,5 +1,5 @@
 use mathlib.Core.Path.{◌≡◌, refl, sym}
-use Prim.Native.Nat.{ℕ, ◌+◌, ◌-◌, ◌≤◌, ◌<◌}
+use Prim.Native.Nat.{◌+◌, ◌≤◌, ◌<◌}
 use native.Mathlib.Omega.{arith}
 use lib.ListN.{length, get_or, take}
 use lib.Seq.{take_all}
@@ -10,7 +10,7 @@ use Rattle.stored_table.proofs.IndexLaws.{few-places}
 use Rattle.replies.specs.Replies.{pairs_size}
 use Rattle.replies.proofs.PairLaws.{size-more, size-part, named-most, named-place, named-there}
 use Rattle.replies.proofs.names.pairs_len.Goals as goal
-use Rattle.replies.proofs.names.pairs_len.Goals.{After-shared_slice_known-in-loop-i-1}
+use Rattle.replies.proofs.names.pairs_len.Goals.{After-shared_slice_known-in-loop-i-1, After-name_len}
 
 pub loop-i-init : goal.loop-i-init
 loop-i-init c = (search rules, refl)
@@ -32,26 +32,18 @@ name_len-requires c =
     (named-there c.requires.indexed c.requires.chosen_of c.loop-i.i c.loop-i-test.true).stands
 
 -- one record more is counted, and all are few
-module _ (c : tie.After-name-len invariant-loop decreases-loop) where
-  abbrev s : tie.Start invariant-loop decreases-loop
-  s = c.before.before.before.before.before.before.before.before
+counted : (c : After-name_len) → let a = c.args in
+    pairs_size (records_at (table_in a.table.now) (take (c.loop-i.i + 1) a.named.now)) ≡ c.loop-i.len + (44 + c.name_len.result)
+counted c =
+    let a = c.args in
+    let there = named-there c.requires.indexed c.requires.chosen_of c.loop-i.i c.loop-i-test.true in
+    omega (arith, c, size-more (table_in a.table.now) a.named.now c.loop-i.i c.loop-i-test.true there)
 
-  abbrev i : ℕ
-  i = c.before.before.before.before.loop.i
-
-  abbrev h : i < length s.args.named.now
-  h = c.before.before.before.loop-test.true
-
-  counted : pairs_size (records_at (table_in s.args.table.now) (take (i + 1) s.args.named.now))
-      ≡ c.before.before.before.before.loop.len + (44 + c.name-len.result)
-  counted =
-      let there = named-there s.pre.0 s.pre.1 i h in
-      omega (arith, c, size-more (table_in s.args.table.now) s.args.named.now i h there)
-
-  small : c.before.before.before.before.loop.len + (44 + c.name-len.result) ≤ 1376
-  small =
-      let part = size-part (table_in s.args.table.now) s.args.named.now (i + 1) (omega (arith, h)) in
-      omega (arith, counted, part, named-most s.pre.0 s.pre.1)
+small : (c : After-name_len) → c.loop-i.len + (44 + c.name_len.result) ≤ 1376
+small c =
+    let a = c.args in
+    let part = size-part (table_in a.table.now) a.named.now (c.loop-i.i + 1) (omega (arith, c.loop-i-test.true)) in
+    omega (arith, counted c, part, named-most c.requires.indexed c.requires.chosen_of)
 
 pub loop-i-preserved : goal.loop-i-preserved
 loop-i-preserved c = (search rules, sym (counted c))

@@ -1,15 +1,10 @@
 -- After i turns the pairs of the first i records are counted.
-use mathlib.Core.Path.{◌≡◌, refl, sym}
-use Prim.Native.Nat.{ℕ, ◌+◌, ◌-◌, ◌≤◌, ◌<◌}
-use native.Mathlib.Omega.{arith}
-use lib.ListN.{length, get_or, take}
-use lib.Seq.{take_all}
-use borrow.Author.Rules.{rules}
+use mathlib.Core.Path.{◌≡◌}
+use Prim.Native.Nat.{◌-◌, ◌≤◌}
+use lib.ListN.{length, take}
 use Rattle.stored_table.specs.Stored.{table_in}
 use Rattle.stored_table.specs.Chosen.{records_at}
-use Rattle.stored_table.proofs.IndexLaws.{few-places}
 use Rattle.replies.specs.Replies.{pairs_size}
-use Rattle.replies.proofs.PairLaws.{size-more, size-part, named-most, named-place, named-there}
 use Rattle.replies.proofs.names.pairs_len.Given as goal
 
 abbrev pub invariant-loop-i : goal.invariant-loop-i

@@ -1,15 +1,13 @@
 -- By the shape: a number, or a sum of lengths that are short.
 use mathlib.Core.Path.{◌≡◌, sym}
 use mathlib.Core.Bool.{cond}
-use mathlib.Core.Logic.{⊎_elim}
 use Prim.Native.Nat.{◌+◌, ◌≤◌}
 use native.Mathlib.Omega.{arith}
 use lib.ListN.{length}
-use borrow.Author.Rules.{rules}
 use Rattle.replies.proofs.PairLaws.{named-most}
 use Rattle.replies.proofs.ReplyLaws.{hash_most, size_by, short_by}
 use Rattle.replies.proofs.write.reply_len.Goals as goal
-use Rattle.replies.proofs.write.reply_len.Goals.{After-len, After-len-in-Signed, Joined-content}
+use Rattle.replies.proofs.write.reply_len.Goals.{After-len, After-len-in-Signed, then-content, else-content}
 
 pub overflow_add-result : goal.overflow_add-result
 overflow_add-result c =
@@ -17,19 +15,19 @@ overflow_add-result c =
 
 -- a registration's sum
 krd-small : (c : After-len) → let a = c.args in
-    84 + c.len.result + length a.public-key.now ≤ 628
+    84 + c.len.result + length a.public_key.now ≤ 628
 krd-small c =
     omega (arith, c.len.ensures, short_by _ c.in-Registration.is c.requires.start_le_end.1)
 
 -- and that of signed data, with the transaction hash
-hash_is : (c : Joined-content) → c.if-content.hash ≡ cond c.in-Signed.content 36 4
-hash_is c = ⊎_elim (λ w. rw w.0.taken w.1) (λ w. rw w.0.left w.1) c.if-content.branch
+hash_is : (c : After-len-in-Signed) → c.if-content.hash ≡ cond c.in-Signed.content 36 4
+hash_is c = elim c.if-content.branch [ then-content w ↦ rw w.if-content.true w.hash-is | else-content w ↦ rw w.if-content.false w.hash-is ]
 
 signed-small : (c : After-len-in-Signed) → let a = c.args in
     78 + c.len-in-Signed.result + length a.nonce.now + c.if-content.hash ≤ 178
 signed-small c =
-    let x = c.shape-1.given in
-    omega (arith, c.len-in-Signed.ensures, hash_is c.PLACE-Joined-content, hash_most x.0.1.1.0, short_by _ x.1 c.requires.start_le_end.1)
+    let x = c.in-Signed in
+    omega (arith, c.len-in-Signed.ensures, hash_is c, hash_most x.content, short_by _ x.is c.requires.start_le_end.1)
 
 pub returns-in-Names : goal.returns-in-Names
 returns-in-Names c = rw c.pairs_len.ensures (sym (size_by _ c.in-Names.is _ _ _ _))
@@ -38,7 +36,7 @@ pub returns-in-Registration : goal.returns-in-Registration
 returns-in-Registration c = rw c.len.ensures (sym (size_by _ c.in-Registration.is _ _ _ _))
 
 pub returns-after-content : goal.returns-after-content
-returns-after-content c = rw (hash_is (goal.at.returns-after-content c).Joined-content, c.len-in-Signed.ensures) (sym (size_by _ c.in-Signed.is _ _ _ _))
+returns-after-content c = rw (hash_is (goal.at.returns-after-content c).After-len-in-Signed, c.len-in-Signed.ensures) (sym (size_by _ c.in-Signed.is _ _ _ _))
 
 pub overflow_add-result-in-Registration : goal.overflow_add-result-in-Registration
 overflow_add-result-in-Registration c = omega (arith, krd-small c)

@@ -1,9 +1,8 @@
 -- By the shape: what its writer asks is at hand, and what it wrote is the reply's answer.
 use mathlib.Core.Path.{refl, sym, ◌∙◌}
-use Prim.Native.Nat.{ℕ, ◌<◌}
+use Prim.Native.Nat.{◌<◌}
 use native.Mathlib.Omega.{arith}
 use lib.ListN.{get_or, length}
-use borrow.Author.Rules.{rules}
 use Rattle.tlv.proofs.HeadLaws.{length_part}
 use Rattle.tlv.proofs.WriteLaws.{same}
 use Rattle.stored_table.specs.Stored.{no_record, table_in}
@@ -35,7 +34,7 @@ returns-in-Info c =
 pub put_names-requires : goal.put_names-requires
 put_names-requires c =
     let size = c.requires.len_value.0 ∙ size_by _ c.in-Names.is _ _ _ _ in
-    (c.requires.indexed, (c.requires.ready.named-there, (size, c.requires.len_value.1)))
+    record { indexed = c.requires.indexed; chosen_of = c.requires.ready.named-there; len_value = (size, c.requires.len_value.1) }
 
 pub returns-in-Names : goal.returns-in-Names
 returns-in-Names c =
@@ -49,10 +48,11 @@ pub put_krd-requires : goal.put_krd-requires
 put_krd-requires c =
     let e = c.in-Registration.is in
     let g = ready_by _ e c.requires.ready in
-    let size = c.requires.len_value.0 ∙ size_by _ e _ _ _ _ in (
-      (g.aaid, rw c.part_of.ensures g.quoted.short, g.key-id, g.public-key),
-      (rw (c.part_of.ensures, length_part g.quoted.challenge.inside) size, c.requires.len_value.1),
-    )
+    let size = c.requires.len_value.0 ∙ size_by _ e _ _ _ _ in
+    record {
+      aaid_len = (g.aaid, rw c.part_of.ensures g.quoted.short, g.key-id, g.public-key);
+      len_value = (rw (c.part_of.ensures, length_part g.quoted.challenge.inside) size, c.requires.len_value.1);
+    }
 
 pub returns-in-Registration : goal.returns-in-Registration
 returns-in-Registration c =
@@ -60,48 +60,43 @@ returns-in-Registration c =
     let hash = c.part_of.ensures ∙ (ready_by _ e c.requires.ready).quoted.challenge.value in
     wrote_by _ e _ _ _ _ (rw (register-draft _ _) (rw hash at c.put_krd.ensures))
 
-module _ (c : tie.After-put-signed-data-arg) where
-  abbrev s : tie.Start
-  s = c.before.before.before.before.before.before.before.before.before.before.before.before.before.before
+-- the record is there
+below : (c : After-part_of-in-Signed) → c.in-Signed.record < length c.args.places.now
+below c = omega (arith, (ready_by _ c.in-Signed.is c.requires.ready).there, length-places c.requires.indexed)
 
-  abbrev i : ℕ
-  i = c.before.before.shape2.given.0.0
-
-  -- the record is there
-  below : i < length s.args.places.now
-  below = omega (arith, (ready_by _ c.before.before.shape2.given.1 s.pre.0).there, length-places s.pre.1.0)
-
-  there : RecordIs s.args.table.now (get_or s.args.places.now i 0) (get_or (table_in s.args.table.now) i no_record)
-  there = record-at s.pre.1.0 i below
+there : (c : After-part_of-in-Signed) → let a = c.args in
+    RecordIs a.table.now (get_or a.places.now c.in-Signed.record 0) (get_or (table_in a.table.now) c.in-Signed.record no_record)
+there c = record-at c.requires.indexed c.in-Signed.record (below c)
 
 pub returns-in-Signed : goal.returns-in-Signed
 returns-in-Signed c =
     let e = c.in-Signed.is in
-    let q = (ready_by _ e (s (goal.at.returns-in-Signed c).After-part_of-in-Signed).requires.0).quoted in
+    let q = (ready_by _ e c.requires.ready).quoted in
     let hash = c.part_of-in-Signed.ensures ∙ q.challenge.value in
     let shown = c.part_of-in-Signed-2.ensures ∙ q.content.value in
     let key = c.key_of.ensures in
     wrote_by _ e _ _ _ _ (rw (hash, shown, key, (there (goal.at.returns-in-Signed c).After-part_of-in-Signed).is) at c.put_signed_data.ensures)
 
 pub part_of-requires-in-Signed : goal.part_of-requires-in-Signed
-part_of-requires-in-Signed c = (ready_by _ c.in-Signed.is (s c).requires.0).quoted.challenge.inside
+part_of-requires-in-Signed c = (ready_by _ c.in-Signed.is c.requires.ready).quoted.challenge.inside
 
 pub part_of-requires-in-Signed-2 : goal.part_of-requires-in-Signed-2
 part_of-requires-in-Signed-2 c =
-    (ready_by _ c.in-Signed.is (s (goal.at.part_of-requires-in-Signed-2 c).After-part_of-in-Signed).requires.0).quoted.content.inside
+    (ready_by _ c.in-Signed.is c.requires.ready).quoted.content.inside
 
 pub offset_bounds-places-record : goal.offset_bounds-places-record
-offset_bounds-places-record c = omega (arith, below (goal.at.offset_bounds-places-record c).After-part_of-in-Signed, few-places (s (goal.at.offset_bounds-places-record c).After-part_of-in-Signed).pre.1.0)
+offset_bounds-places-record c = omega (arith, below (goal.at.offset_bounds-places-record c).After-part_of-in-Signed, few-places c.requires.indexed)
 
 pub put_signed_data-requires : goal.put_signed_data-requires
 put_signed_data-requires c =
     let e = c.in-Signed.is in
-    let g = ready_by _ e (s (goal.at.put_signed_data-requires c).After-part_of-in-Signed).requires.0 in
-    let size = (s (goal.at.put_signed_data-requires c).After-part_of-in-Signed).requires.1.1.0 ∙ size_by _ e _ _ _ _ in
-    let part = c.part_of-in-Signed.ensures in (
-      (g.aaid, g.nonce, rw part g.quoted.short, key_length _ _ (there (goal.at.put_signed_data-requires c).After-part_of-in-Signed).stands c.key_of.ensures),
-      (rw (part, length_part g.quoted.challenge.inside) size, (s (goal.at.put_signed_data-requires c).After-part_of-in-Signed).requires.1.1.1),
-    )
+    let g = ready_by _ e c.requires.ready in
+    let size = c.requires.len_value.0 ∙ size_by _ e _ _ _ _ in
+    let part = c.part_of-in-Signed.ensures in
+    record {
+      aaid_len = (g.aaid, g.nonce, rw part g.quoted.short, key_length _ _ (there (goal.at.put_signed_data-requires c).After-part_of-in-Signed).stands c.key_of.ensures);
+      len_value = (rw (part, length_part g.quoted.challenge.inside) size, c.requires.len_value.1);
+    }
 
 pub bounds-places-record : goal.bounds-places-record
 bounds-places-record c = below (goal.at.bounds-places-record c).After-part_of-in-Signed
