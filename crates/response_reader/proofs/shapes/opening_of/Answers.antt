@@ -1,7 +1,6 @@
 -- Without the two headers it is no response; ten bytes are a status alone; more follows status OK alone.
 use native.Mathlib.Omega.{arith}
 use mathlib.Core.Path.{sym, ◌∙◌}
-use borrow.Author.Tests.{not-true, not-false}
 use Rattle.response_reader.proofs.OpeningLaws.{Headed, headed-is}
 use Rattle.response_reader.proofs.ShapeLaws.{unheaded_is}
 use Rattle.response_reader.proofs.SignedLaws.{alone_no, alone_yes, status-no, longer-than}
@@ -11,16 +10,16 @@ use Rattle.response_reader.proofs.shapes.opening_of.Goals.{After-get16-status}
 
 -- the two headers are there
 start : (c : After-get16-status) → Headed c.args.s.now
-start c = headed-is (sym c.is_headed.ensures ∙ not-false _ c.if-not-is_headed.false-raw)
+start c = headed-is (sym c.is_headed.ensures ∙ c.if-not-is_headed.false)
 
 pub returns-then-not-is_headed : goal.returns-then-not-is_headed
-returns-then-not-is_headed c = unheaded_is _ (sym c.is_headed.ensures ∙ not-true _ c.if-not-is_headed.true-raw)
+returns-then-not-is_headed c = unheaded_is _ (sym c.is_headed.ensures ∙ c.if-not-is_headed.true)
 
 pub get16-tag-requires : goal.get16-tag-requires
-get16-tag-requires c = omega (arith, headed-is (sym c.is_headed.ensures ∙ not-false _ c.if-not-is_headed.false-raw))
+get16-tag-requires c = omega (arith, headed-is (sym c.is_headed.ensures ∙ c.if-not-is_headed.false))
 
 pub get16-status-requires : goal.get16-status-requires
-get16-status-requires c = omega (arith, headed-is (sym c.is_headed.ensures ∙ not-false _ c.if-not-is_headed.false-raw))
+get16-status-requires c = omega (arith, headed-is (sym c.is_headed.ensures ∙ c.if-not-is_headed.false))
 
 pub returns-then-is_alone : goal.returns-then-is_alone
 returns-then-is_alone c =
