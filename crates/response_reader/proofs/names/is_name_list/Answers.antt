@@ -1,5 +1,4 @@
 -- After status OK two to eight pairs and nothing else, no two with the same KeyID.
-use borrow.Author.Rules.{rules}
 use mathlib.Core.Path.{sym, ◌∙◌}
 use mathlib.Core.Bool.{true, false}
 use native.Mathlib.Nat.{sub-zero}

@@ -1,9 +1,6 @@
 -- At each turn a pair stands at the place reached, and there is room for its two rows.
-use borrow.Author.Rules.{rules}
 use native.Mathlib.Omega.{arith}
-use Prim.Native.Nat.{◌-◌}
-use lib.ListN.{length}
-use Rattle.response_reader.proofs.NamingLaws.{Naming, Turn, naming_start, naming_turn, naming_next, naming_all}
+use Rattle.response_reader.proofs.NamingLaws.{naming_start, naming_turn, naming_next, naming_all}
 use Rattle.response_reader.proofs.readings.name_fields.Goals as goal
 
 pub loop-at-init : goal.loop-at-init

@@ -1,5 +1,4 @@
 -- Refusal 5, or the tag, the status and the fields of the response.
-use borrow.Author.Rules.{rules}
 use native.Mathlib.Omega.{arith}
 use mathlib.Core.Path.{sym, ◌∙◌}
 use Rattle.model.proofs.Refusals.{not_read}
