@@ -67,12 +67,12 @@ lies_at : {w : List ℕ} {at : ℕ} (to : ℕ) {l : Layout} {s rest : List ℕ} 
 lies_at to nothing e h = omega arith
 lies_at {w} {at} to (one {f = f} {t = t} p g i r) e h =
     let n : size_at f w at ≡ length t.value = size-there p e f i in
-    (length-there p e ∙ sym n, rw n (lies_at to r (after-there p e) (omega (arith, length_front p))))
+    (length-there p e ∙ sym n, rw n (lies_at {at = next at t} to r (after-there p e) (omega (arith, length_front p))))
 lies_at {w} {at} to (many {t = t} p g i r) e h =
     let n : num_at 2 w (at + 2) ≡ length t.value = length-there p e in
     rw n (
-      lies_at (next at t) i (inside-there p e) refl,
-      lies_at to r (after-there p e) (omega (arith, length_front p)),
+      lies_at {at = at + 4} (next at t) i (inside-there p e) refl,
+      lies_at {at = next at t} to r (after-there p e) (omega (arith, length_front p)),
     )
 
 laid_at : (n : ℕ) {w : List ℕ} {at : ℕ} {l : Layout} {s rest : List ℕ} → Layered l s → Stands w at s rest → honest n l ≡ true

@@ -24,7 +24,7 @@ use Rattle.tlv.proofs.HeadLaws.{IsTlv, head_end, length_part}
 use Rattle.tlv.specs.Rows.{rows, row, Within}
 use Rattle.tlv.proofs.RowLaws.{rows_more, within_more}
 use Rattle.layouts.specs.Places.{nowhere, reads_at, obeys, after_group}
-use Rattle.layouts.proofs.PlaceLaws.{past_head, read_end, read_group, then-field, then-last, from_front, in_before, tlv-before}
+use Rattle.layouts.proofs.PlaceLaws.{past_head_lem, read_end, read_group, then-field, then-last, from_front, in_before, tlv-before}
 use Rattle.layouts.proofs.SizeLaws.{Layered, nothing, one, layered, length_front, parts_front, parts_nothing}
 use Rattle.response_reader.specs.Met.{part_at, met}
 use Rattle.response_reader.specs.Responses.{Opened, handles, handles_from, KeysAre}
@@ -102,7 +102,7 @@ beyond l s at h = simp (lt-leb _ _ h)
 pairs_end : (s : List ℕ) (at k : ℕ) → at ≡ length s → reads_at (name_pairs k) s at ≡ eqb k 0
 pairs_end s at zero e = read_end s at ∙ eq-eqb _ _ e
 pairs_end s at (suc k) e =
-    let p : after_pair s at ≡ nowhere s = past_head pair_tag (reads pair_fields) s at (head_end s at (omega arith)) in
+    let p : after_pair s at ≡ nowhere s = past_head_lem pair_tag (reads pair_fields) s at (head_end s at (omega arith)) in
     read_group pair_tag pair_fields (name_pairs k) s at ∙ rw p (beyond (name_pairs k) s (nowhere s) (omega arith))
     ∙ sym (ne_eqb (suc k) 0 (λ z. omega arith))
 

@@ -19,7 +19,7 @@ use Rattle.tlv.specs.Heads.{head_at}
 use Rattle.tlv.specs.declared.heads.Head.TheVariants.{Tlv as Found}
 use Rattle.tlv.proofs.HeadLaws.{head_tlv}
 use Rattle.layouts.specs.Places.{nowhere, reads_at, obeys, after_field, in_group}
-use Rattle.layouts.proofs.PlaceLaws.{past_head, read_end, read_field, read-last, reads_front}
+use Rattle.layouts.proofs.PlaceLaws.{past_head_lem, read_end, read_field, read-last, reads_front}
 use Rattle.layouts.proofs.SizeLaws.{Layered, nothing, one, many, length_front}
 use Rattle.response_reader.specs.Responses.{headed, Opened}
 
@@ -201,7 +201,7 @@ module _ {s : List ℕ} (h : Headed s) where
 
   after-status : (ns : List ℕ) → after_field (status_among ns) s 4 ≡ cond (fits (status_among ns) (status_in s)) 10 (nowhere s)
   unfolding fits
-  after-status ns = past_head (tag_of ok) (obeys (rule_of (status_among ns))) s 4 status_head
+  after-status ns = past_head_lem (tag_of ok) (obeys (rule_of (status_among ns))) s 4 status_head
 
   -- a status alone
   pub alone-reads : (g : ℕ) (ns : List ℕ) → length s ≡ 10

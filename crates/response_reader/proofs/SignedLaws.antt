@@ -25,14 +25,14 @@ use Rattle.layouts.specs.Places.{reads_at, obeys, in_group, after_group}
 use Rattle.layouts.proofs.PlaceLaws.{then-group, from_front, in_before, tlv-before}
 use Rattle.layouts.proofs.SizeLaws.{lacks_none}
 use Rattle.response_reader.specs.Met.{met, span_of, signed_met}
-use Rattle.response_reader.specs.Responses.{alone, Opened, Longer, in_assertion}
+use Rattle.response_reader.specs.Responses.{alone, headed, Opened, Longer, in_assertion}
 use Rattle.response_reader.specs.Shapes.{shape_if, shape_of, is_shape, signed_at, OpeningIs}
 use Rattle.response_reader.specs.declared.shapes.Opening.{Opening}
 use Rattle.response_reader.specs.declared.shapes.Opening.TheVariants.{NoResponse as NoOpening, Alone, Longer as MoreAfter}
 use Rattle.response_reader.specs.declared.shapes.Shape.{Shape}
 use Rattle.response_reader.specs.declared.shapes.Shape.TheVariants.{NoResponse, Response}
 use Rattle.response_reader.proofs.MetLaws.{met-tlv, parts-met}
-use Rattle.response_reader.proofs.OpeningLaws.{Headed, status_in, status-is, opened}
+use Rattle.response_reader.proofs.OpeningLaws.{Headed, headed-is, status_in, status-is, opened}
 use Rattle.response_reader.proofs.ShapeLaws.{then_assertion, alone-any, alone-is, status_bad, info-is, registered-is, signed_is}
 
 -- ---- the first signed structure
@@ -202,6 +202,10 @@ module _ {s : List ℕ} {n : ℕ} (h : Headed s) (b : get_or s 8 0 < 256) (e : n
 
     pub longer-than : {t : ℕ} → t ≡ num_at 2 s 0 → n ≡ 0 → Longer t s
     longer-than f z = record { opened = opened h f (fits-ok ∙ eq-eqb n 0 z); more = omega (arith, h.long) }
+
+-- where more follows another status
+pub more_after : (s : List ℕ) → headed s ≡ true → get_or s 8 0 < 256 → (length s ≡ 10 → ⊥) → (num_at 2 s 8 ≡ 0 → ⊥) → is_response s ≡ false
+more_after s h b l f = status-no (headed-is h) b refl l f
 
 -- by how it starts
 module _ (s : List ℕ) {r : Opening} (i : OpeningIs s r) where

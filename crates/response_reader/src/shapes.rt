@@ -235,6 +235,7 @@ enum Opening {
 }
 
 // How a stretch starts, by its headers and its status, each read once at its place.
+#[tactic(auto, using(crate::proofs::SignedLaws::more_after))]
 fn opening_of(s: &[u8]) -> Opening
     ensures { OpeningIs s.now result }
 {

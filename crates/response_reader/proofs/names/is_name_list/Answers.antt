@@ -1,5 +1,4 @@
 -- After status OK two to eight pairs and nothing else, no two with the same KeyID.
-use borrow.Author.Rules.{rules}
 use mathlib.Core.Path.{sym, ◌∙◌}
 use mathlib.Core.Bool.{true, false}
 use native.Mathlib.Nat.{sub-zero}
@@ -12,9 +11,9 @@ returns-then-n-lt2 c =
     sym (list-distinct c.args.s.now c.requires c.keys_from-n.ensures false (lt-leb _ _ c.if-n-lt2.true))
 
 pub all_distinct-requires : goal.all_distinct-requires
-all_distinct-requires c = rw sub-zero c.keys_from.ensures.within
+all_distinct-requires c = rw sub-zero c.keys_from-n.ensures.within
 
 pub returns : goal.returns
 returns c =
-    let start = k.before.before.before in rw sub-zero at c.all_distinct.ensures
-    ∙ sym (list-distinct start.args.s.now start.requires c.keys_from.ensures true (le-leb _ _ c.if1.false))
+    rw sub-zero at c.all_distinct.ensures
+    ∙ sym (list-distinct c.args.s.now c.requires c.keys_from-n.ensures true (le-leb _ _ c.if-n-lt2.false))

@@ -1,9 +1,7 @@
 use borrow.Author.Rules.{rules}
-use Prim.Native.Nat.{◌-◌}
-use lib.ListN.{length}
-use mathlib.Core.Path.{◌≡◌, refl}
+use mathlib.Core.Path.{refl}
 use native.Mathlib.Omega.{arith}
-use Rattle.response_reader.proofs.NameLaws.{pair_is, Keyed, keyed_none, keyed_next, keyed_all, keyed_bad, keyed-more}
+use Rattle.response_reader.proofs.NameLaws.{pair_is, keyed_none, keyed_next, keyed_all, keyed_bad, keyed-more}
 use Rattle.response_reader.proofs.names.keys_from.Goals as goal
 
 pub loop-len-init : goal.loop-len-init

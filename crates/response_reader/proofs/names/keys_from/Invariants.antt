@@ -1,10 +1,8 @@
 -- After each turn the KeyIDs of the pairs up to the place reached are placed.
-use borrow.Author.Rules.{rules}
 use Prim.Native.Nat.{◌-◌}
 use lib.ListN.{length}
-use mathlib.Core.Path.{◌≡◌, refl}
-use native.Mathlib.Omega.{arith}
-use Rattle.response_reader.proofs.NameLaws.{pair_is, Keyed, keyed_none, keyed_next, keyed_all, keyed_bad, keyed-more}
+use mathlib.Core.Path.{◌≡◌}
+use Rattle.response_reader.proofs.NameLaws.{Keyed}
 use Rattle.response_reader.proofs.names.keys_from.Given as goal
 
 abbrev pub invariant-loop-len : goal.invariant-loop-len

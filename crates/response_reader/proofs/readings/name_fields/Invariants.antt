@@ -1,9 +1,7 @@
 -- After each turn the rows are those of the pairs up to the place reached.
-use borrow.Author.Rules.{rules}
-use native.Mathlib.Omega.{arith}
 use Prim.Native.Nat.{◌-◌}
 use lib.ListN.{length}
-use Rattle.response_reader.proofs.NamingLaws.{Naming, Turn, naming_start, naming_turn, naming_next, naming_all}
+use Rattle.response_reader.proofs.NamingLaws.{Naming}
 use Rattle.response_reader.proofs.readings.name_fields.Given as goal
 
 abbrev pub invariant-loop-at : goal.invariant-loop-at

@@ -1,5 +1,4 @@
 -- Which shape a response has is known by its length, its outer tag and the tag after its status.
-use borrow.Author.Rules.{rules}
 use native.Mathlib.Omega.{arith}
 use Rattle.response_reader.proofs.ShapedLaws.{status-rows, info-rows, is-info, is_registration, is-signature, is-names, more-there}
 use Rattle.response_reader.proofs.readings.parts_in.Goals as goal

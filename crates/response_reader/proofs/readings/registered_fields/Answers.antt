@@ -1,5 +1,4 @@
 -- The fields of one of the two layouts: the one without a certificate ends with the signature.
-use borrow.Author.Rules.{rules}
 use native.Mathlib.Omega.{arith}
 use mathlib.Core.Path.{refl}
 use Rattle.tlv.specs.Firsts.{firsts}

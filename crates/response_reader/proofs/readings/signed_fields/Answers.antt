@@ -1,5 +1,4 @@
 -- The fields of one of the two layouts, which differ in the length of a hash.
-use borrow.Author.Rules.{rules}
 use native.Mathlib.Omega.{arith}
 use mathlib.Core.Path.{refl}
 use Rattle.tlv.specs.Firsts.{firsts}

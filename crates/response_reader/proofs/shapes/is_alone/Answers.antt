@@ -3,7 +3,6 @@ use mathlib.Core.Path.{sym}
 use mathlib.Core.Bool.{or-false}
 use Rattle.model.specs.Tlv.{get_info, register, sign, deregister, open_settings}
 use Rattle.response_reader.proofs.ShapeLaws.{alone_at, alone_none}
-use borrow.Author.Rules.{rules}
 use Rattle.response_reader.proofs.shapes.is_alone.Goals as goal
 
 pub returns-in-13825 : goal.returns-in-13825

@@ -5,14 +5,5 @@ use Rattle.model.specs.Commands.{statuses}
 use Rattle.response_reader.proofs.ShapeLaws.{none_among}
 use Rattle.response_reader.proofs.shapes.is_of_deregister.Goals as goal
 
-pub returns-in-0 : goal.returns-in-0
-returns-in-0 c = rw c.in-0.is
-
-pub returns-in-2 : goal.returns-in-2
-returns-in-2 c = rw c.in-2.is
-
-pub returns-in-8 : goal.returns-in-8
-returns-in-8 c = rw c.in-8.is
-
 pub returns-in_default : goal.returns-in_default
 returns-in_default c = sym (none_among c.args.status (statuses deregister) c.in_default.in_default-own.rest)

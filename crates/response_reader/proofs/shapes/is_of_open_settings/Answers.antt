@@ -5,11 +5,5 @@ use Rattle.model.specs.Commands.{statuses}
 use Rattle.response_reader.proofs.ShapeLaws.{none_among}
 use Rattle.response_reader.proofs.shapes.is_of_open_settings.Goals as goal
 
-pub returns-in-6 : goal.returns-in-6
-returns-in-6 c = rw c.in-6.is
-
-pub returns-in-8 : goal.returns-in-8
-returns-in-8 c = rw c.in-8.is
-
 pub returns-in_default : goal.returns-in_default
 returns-in_default c = sym (none_among c.args.status (statuses open_settings) c.in_default.in_default-own.rest)

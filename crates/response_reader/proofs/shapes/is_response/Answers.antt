@@ -1,7 +1,6 @@
 -- By how it starts, and by what follows the status.
 use mathlib.Core.Path.{sym, ◌∙◌}
 use Rattle.response_reader.proofs.SignedLaws.{opening_no, opening-alone, opening_longer, is_shape_of}
-use borrow.Author.Rules.{rules}
 use Rattle.response_reader.proofs.shapes.is_response.Goals as goal
 
 pub shape_with-requires : goal.shape_with-requires

@@ -1,42 +1,36 @@
 -- Without the two headers it is no response; ten bytes are a status alone; more follows status OK alone.
 use native.Mathlib.Omega.{arith}
 use mathlib.Core.Path.{sym, ◌∙◌}
-use borrow.Author.Tests.{not-true, not-false}
 use Rattle.response_reader.proofs.OpeningLaws.{Headed, headed-is}
 use Rattle.response_reader.proofs.ShapeLaws.{unheaded_is}
-use Rattle.response_reader.proofs.SignedLaws.{alone_no, alone_yes, status-no, longer-than}
-use borrow.Author.Rules.{rules}
+use Rattle.response_reader.proofs.SignedLaws.{alone_no, alone_yes, longer-than}
 use Rattle.response_reader.proofs.shapes.opening_of.Goals as goal
 use Rattle.response_reader.proofs.shapes.opening_of.Goals.{After-get16-status}
 
 -- the two headers are there
 start : (c : After-get16-status) → Headed c.args.s.now
-start c = headed-is (sym c.is_headed.ensures ∙ not-false _ c.if-not-is_headed.false-raw)
+start c = headed-is (sym c.is_headed.ensures ∙ c.if-not-is_headed.false)
 
 pub returns-then-not-is_headed : goal.returns-then-not-is_headed
-returns-then-not-is_headed c = unheaded_is _ (sym c.is_headed.ensures ∙ not-true _ c.if-not-is_headed.true-raw)
+returns-then-not-is_headed c = unheaded_is _ (sym c.is_headed.ensures ∙ c.if-not-is_headed.true)
 
 pub get16-tag-requires : goal.get16-tag-requires
-get16-tag-requires c = omega (arith, headed-is (sym c.is_headed.ensures ∙ not-false _ c.if-not-is_headed.false-raw))
+get16-tag-requires c = omega (arith, headed-is (sym c.is_headed.ensures ∙ c.if-not-is_headed.false))
 
 pub get16-status-requires : goal.get16-status-requires
-get16-status-requires c = omega (arith, headed-is (sym c.is_headed.ensures ∙ not-false _ c.if-not-is_headed.false-raw))
+get16-status-requires c = omega (arith, headed-is (sym c.is_headed.ensures ∙ c.if-not-is_headed.false))
 
 pub returns-then-is_alone : goal.returns-then-is_alone
 returns-then-is_alone c =
-    alone_yes (start (goal.at.returns-then-is_alone c).After-get16-status) (c.shared_slice_known-1.given 8).fits c.get16-status.ensures.value c.if-s-eq10.true c.get16-tag.ensures.value
+    alone_yes (start (goal.at.returns-then-is_alone c).After-get16-status) (c.type_inv.s 8).fits c.get16-status.ensures.value c.if-s-eq10.true c.get16-tag.ensures.value
     c.is_alone.ensures c.if-is_alone.true
 
 pub returns-then-s-eq10 : goal.returns-then-s-eq10
 returns-then-s-eq10 c =
-    alone_no (start (goal.at.returns-then-s-eq10 c).After-get16-status) (c.shared_slice_known-1.given 8).fits c.get16-status.ensures.value c.if-s-eq10.true c.get16-tag.ensures.value
+    alone_no (start (goal.at.returns-then-s-eq10 c).After-get16-status) (c.type_inv.s 8).fits c.get16-status.ensures.value c.if-s-eq10.true c.get16-tag.ensures.value
     c.is_alone.ensures c.if-is_alone.false
-
-pub returns-then-status-ne0 : goal.returns-then-status-ne0
-returns-then-status-ne0 c =
-    status-no (start (goal.at.returns-then-status-ne0 c).After-get16-status) (c.shared_slice_known-1.given 8).fits c.get16-status.ensures.value c.if-s-eq10.false c.if-status-ne0.true
 
 pub returns : goal.returns
 returns c =
-    longer-than (start (goal.at.returns c).After-get16-status) (c.shared_slice_known-1.given 8).fits c.get16-status.ensures.value c.if-s-eq10.false c.get16-tag.ensures.value
-    c.if-status-ne0.false
+    longer-than (start (goal.at.returns c).After-get16-status) (c.type_inv.s 8).fits c.get16-status.ensures.value c.if-s-eq10.false c.get16-tag.ensures.value
+    (omega arith)

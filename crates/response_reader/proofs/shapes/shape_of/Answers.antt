@@ -1,6 +1,5 @@
 -- By how it starts, and by what follows the status.
 use Rattle.response_reader.proofs.SignedLaws.{shape_no, opening_no, opening-alone, opening_longer}
-use borrow.Author.Rules.{rules}
 use Rattle.response_reader.proofs.shapes.shape_of.Goals as goal
 
 pub shape_with-requires : goal.shape_with-requires

@@ -2,7 +2,6 @@
 use mathlib.Core.Path.{◌∙◌}
 use Rattle.response_reader.proofs.ShapeLaws.{longer_as, other_is}
 use Rattle.response_reader.proofs.SignedLaws.{shape_no, info_shape, names_shape, registered-complete, registered_shape, registered_no, signed-complete, signed_shape}
-use borrow.Author.Rules.{rules}
 use Rattle.response_reader.proofs.shapes.shape_with.Goals as goal
 
 pub is_info-requires : goal.is_info-requires

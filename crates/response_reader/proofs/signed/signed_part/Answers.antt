@@ -3,7 +3,6 @@ use mathlib.Core.Path.{refl, ◌∙◌}
 use Rattle.model.proofs.Refusals.{not_read}
 use Rattle.response_reader.proofs.SignedLaws.{no_response, response_with}
 use Rattle.response_reader.proofs.ReadingLaws.{signed-inside, read_signed}
-use borrow.Author.Rules.{rules}
 use Rattle.response_reader.proofs.signed.signed_part.Goals as goal
 
 pub returns-in-NoResponse : goal.returns-in-NoResponse
