@@ -4,7 +4,6 @@ use mathlib.Core.Path.{◌≡◌, refl, sym, ◌∙◌}
 use mathlib.Core.Bool.{Bool, true, false, not, ◌&&◌, and-false}
 use mathlib.Core.List.{List}
 use Prim.Native.Nat.{ℕ}
-use lib.Dec.{eqb}
 use Rattle.model.specs.Tlv.{Kind, get_info, register, sign, deregister, open_settings, broken}
 use Rattle.model.specs.Records.{Table}
 use Rattle.model.specs.Commands.{Call, judge, only, apply, mixed_in, register_checks, decide_register, decide_sign, decide, perform_for, perform}

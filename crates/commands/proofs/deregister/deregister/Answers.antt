@@ -1,5 +1,4 @@
 -- A status alone, which is OK exactly if something may be removed.
-use borrow.Author.Rules.{rules}
 use Rattle.commands.proofs.DecisionLaws.{fails, deregister_checked, deregistered}
 use Rattle.commands.proofs.deregister.deregister.Goals as goal
 

@@ -1,5 +1,4 @@
 -- A status alone, or key registration data and a record more.
-use borrow.Author.Rules.{rules}
 use Rattle.commands.proofs.DecisionLaws.{fails, register_checked, registered}
 use Rattle.commands.proofs.register.register.Goals as goal
 

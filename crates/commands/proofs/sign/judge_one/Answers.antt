@@ -1,17 +1,19 @@
 -- The display result, which counts with content only, then the last count.
-use borrow.Author.Rules.{rules}
 use mathlib.Core.Path.{◌≡◌}
 use mathlib.Core.Bool.{false, not, ◌&&◌}
-use mathlib.Core.Logic.{⊎_elim}
 use lib.Dec.{eqb}
 use borrow.Author.Tests.{eq-eqb, ne_eqb}
 use Rattle.model.specs.Commands.{judge}
 use Rattle.commands.proofs.sign.judge_one.Goals as goal
-use Rattle.commands.proofs.sign.judge_one.Goals.{Joined-content}
+use Rattle.commands.proofs.sign.judge_one.Goals.{Joined-content, then-content+else-display-ne0, else-content}
 
 -- past the display result
 shown : (c : Joined-content) → let a = c.args in (a.content && not (eqb a.display 0)) ≡ false
-shown c = ⊎_elim (λ w. rw (w.0.taken, eq-eqb _ _ w.1.left)) (λ w. rw w.left) c.if-content.branch
+shown c =
+    elim c.if-content.branch [
+      then-content+else-display-ne0 w ↦ rw (w.if-content.true, eq-eqb _ _ w.if-display-ne0.false)
+    | else-content w ↦ rw w.if-content.false
+    ]
 
 pub returns-then-display-ne0 : goal.returns-then-display-ne0
 unfolding judge

@@ -1,5 +1,4 @@
 -- A status alone where none is chosen, one record signed for, or the names of several.
-use borrow.Author.Rules.{rules}
 use mathlib.Core.Path.{sym, ap, ◌∙◌}
 use mathlib.Core.Bool.{not}
 use Prim.Native.Nat.{◌<◌}
@@ -14,42 +13,35 @@ use Rattle.stored_table.proofs.IndexLaws.{record-at, length-places, few-places}
 use Rattle.commands.proofs.JudgeLaws.{placed_empty}
 use Rattle.commands.proofs.SignLaws.{Chose, chose, sign-fails, sign-placed, handles_placed, none_chosen, one-chosen, several_chosen}
 use Rattle.commands.proofs.sign.sign.Goals as goal
-use Rattle.commands.proofs.sign.sign.Goals.{After-choose-named, In-Passes, Then-named-eq1}
-
--- where the checks have passed
-abbrev start : tie.After-enum-told → tie.Start
-start c = c.before.before.before.before.before.before.before.before.before
+use Rattle.commands.proofs.sign.sign.Goals.{After-choose-named, In-Passes}
 
 pub returns-in-Fails : goal.returns-in-Fails
 returns-in-Fails c =
     λ k. rw c.only.ensures
     (sign-fails _ c.requires.params_read.0 c.judge_sign-judged.ensures c.in-Fails.is)
 
-placed : (c : In-Passes) → ParamsPlaced (start c).args.command.now (start c).args.params
-placed c = sign-placed (start c).args.numbers (start c).requires.0.0 c.judge_sign-judged.ensures c.in-Passes.is
+placed : (c : In-Passes) → ParamsPlaced c.args.command.now c.args.params
+placed c = sign-placed c.args.numbers c.requires.params_read.0 c.judge_sign-judged.ensures c.in-Passes.is
 
-given : (c : In-Passes) → HandlesPlaced (start c).args.command.now (start c).args.handles.now (start c).args.params.handle_count
+given : (c : In-Passes) → HandlesPlaced c.args.command.now c.args.handles.now c.args.params.handle_count
 given c =
-    handles_placed (start c).args.numbers (start c).requires.0.0 c.judge_sign-judged.ensures c.in-Passes.is (start c).requires.0.1
+    handles_placed c.args.numbers c.requires.params_read.0 c.judge_sign-judged.ensures c.in-Passes.is c.requires.params_read.1
 
 -- the records found are those chosen
-found : (c : After-choose-named) → let a = (start c.PLACE-In-Passes).args in
-    Chose a.command.now a.numbers a.mixed.now (table_in a.table.now) a.params c.choose-named.new.1.1.1.1.1.0
+found : (c : After-choose-named) → let a = c.args in
+    Chose a.command.now a.numbers a.mixed.now (table_in a.table.now) a.params c.choose-named.new.chosen
     c.choose-named.result
 found c =
-    chose _ (start c.PLACE-In-Passes).requires.0.0 c.judge_sign-judged.ensures c.in-Passes.is (start c.PLACE-In-Passes).requires.0.1 (start c.PLACE-In-Passes).requires.1.0.ok
-    (rw (sub-zero (start c.PLACE-In-Passes).args.params.handle_count) at c.choose-named.ensures)
-
--- the only one has a place
-abbrev start-2 : tie.Then2 → tie.Start
-start-2 c = start c.before.before.before.before.before.before.before
-
-first : (c : Then-named-eq1) → get_or c.choose-named.new.1.1.1.1.1.0 0 0 < length (start-2 c).args.places.now
-first c = omega (arith, ((found c.PLACE-After-choose-named).mine c.if-named-eq1.true).there, length-places (start-2 c).requires.1.0)
+    chose _ c.requires.params_read.0 c.judge_sign-judged.ensures c.in-Passes.is c.requires.params_read.1 c.requires.indexed.ok
+    (rw (sub-zero c.args.params.handle_count) at c.choose-named.ensures)
 
 pub choose-named-requires : goal.choose-named-requires
 choose-named-requires c =
-    ((start (goal.at.choose-named-requires c).In-Passes).requires.1.0, (rw (sub-zero (start (goal.at.choose-named-requires c).In-Passes).args.params.handle_count) (given (goal.at.choose-named-requires c).In-Passes).inside, (start (goal.at.choose-named-requires c).In-Passes).requires.1.1))
+    record {
+      indexed = c.requires.indexed;
+      within = rw (sub-zero c.args.params.handle_count) (given (goal.at.choose-named-requires c).In-Passes).inside;
+      chosen_len = c.requires.chosen_len;
+    }
 
 pub returns-then-named-eq0 : goal.returns-then-named-eq0
 returns-then-named-eq0 c = λ k. rw c.only-then-named-eq0.ensures (none_chosen (found (goal.at.returns-then-named-eq0 c).After-choose-named) c.if-named-eq0.true)
@@ -58,18 +50,22 @@ pub bounds-chosen-0 : goal.bounds-chosen-0
 bounds-chosen-0 c = omega (arith, (found (goal.at.bounds-chosen-0 c).After-choose-named).within, c.if-named-eq1.true)
 
 pub offset_bounds-places-i : goal.offset_bounds-places-i
-offset_bounds-places-i c = omega (arith, first (goal.at.offset_bounds-places-i c).Then-named-eq1, few-places (start-2 (goal.at.offset_bounds-places-i c).Then-named-eq1).requires.1.0)
+offset_bounds-places-i c =
+    let first : get_or c.choose-named.new.chosen 0 0 < length c.args.places.now = omega (arith, ((found (goal.at.offset_bounds-places-i c).After-choose-named).mine c.if-named-eq1.true).there, length-places c.requires.indexed) in
+    omega (arith, first, few-places c.requires.indexed)
 
 pub count_of-count-requires : goal.count_of-count-requires
 count_of-count-requires c =
-    (record-at (start-2 (goal.at.count_of-count-requires c).Then-named-eq1).requires.1.0 _ (first (goal.at.count_of-count-requires c).Then-named-eq1)).stands
+    let first : get_or c.choose-named.new.chosen 0 0 < length c.args.places.now = omega (arith, ((found (goal.at.count_of-count-requires c).After-choose-named).mine c.if-named-eq1.true).there, length-places c.requires.indexed) in
+    (record-at c.requires.indexed _ first).stands
 
 pub returns-then-named-eq1 : goal.returns-then-named-eq1
 unfolding has_content
 returns-then-named-eq1 c =
+    let first : get_or c.choose-named.new.chosen 0 0 < length c.args.places.now = omega (arith, ((found (goal.at.returns-then-named-eq1 c).After-choose-named).mine c.if-named-eq1.true).there, length-places c.requires.indexed) in
     λ k. one-chosen (found (goal.at.returns-then-named-eq1 c).After-choose-named) c.if-named-eq1.true
     (ap not (placed_empty _ _ _ (placed (goal.at.returns-then-named-eq1 c).In-Passes).transaction-content ∙ sym c.is_empty.ensures))
-    (sym (c.count_of-count.ensures ∙ ap (λ (r : Record). r.count) (record-at (start-2 (goal.at.returns-then-named-eq1 c).Then-named-eq1).requires.1.0 _ (first (goal.at.returns-then-named-eq1 c).Then-named-eq1)).is))
+    (sym (c.count_of-count.ensures ∙ ap (λ (r : Record). r.count) (record-at c.requires.indexed _ first).is))
     c.sign_one.ensures
 
 pub returns-else-named-eq1 : goal.returns-else-named-eq1
@@ -79,4 +75,6 @@ pub slice_bounds-choose-end : goal.slice_bounds-choose-end
 slice_bounds-choose-end c = omega (arith, (given c).few)
 
 pub bounds-places-i : goal.bounds-places-i
-bounds-places-i c = first (goal.at.bounds-places-i c).Then-named-eq1
+bounds-places-i c =
+    let first : get_or c.choose-named.new.chosen 0 0 < length c.args.places.now = omega (arith, ((found (goal.at.bounds-places-i c).After-choose-named).mine c.if-named-eq1.true).there, length-places c.requires.indexed) in
+    first

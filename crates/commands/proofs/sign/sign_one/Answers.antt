@@ -1,5 +1,4 @@
 -- A status alone, or signed data and the count raised.
-use borrow.Author.Rules.{rules}
 use native.Mathlib.Omega.{arith}
 use borrow.Author.Tests.{eqb-false}
 use Rattle.model.specs.Records.{max_count}
