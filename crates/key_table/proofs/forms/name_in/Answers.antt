@@ -1,6 +1,5 @@
 -- The part from the front.
 use native.Mathlib.Nat.{sub-zero}
-use borrow.Author.Rules.{rules}
 use Rattle.key_table.proofs.forms.name_in.Goals as goal
 
 pub returns : goal.returns

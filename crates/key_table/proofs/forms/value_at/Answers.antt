@@ -1,6 +1,5 @@
 -- The record of the four fields as they are stored.
 use native.Mathlib.Omega.{arith}
-use borrow.Author.Rules.{rules}
 use Rattle.stored_table.proofs.IndexLaws.{key_length, mixed-length, name-length}
 use Rattle.key_table.proofs.forms.value_at.Goals as goal
 

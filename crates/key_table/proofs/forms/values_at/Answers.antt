@@ -1,9 +1,7 @@
-use Prim.Native.Nat.{◌-◌, ◌≤◌}
 use native.Mathlib.Omega.{arith}
-use lib.ListN.{length}
 use borrow.Author.Rules.{rules}
 use Rattle.stored_table.proofs.IndexLaws.{few-places}
-use Rattle.key_table.proofs.LoadLaws.{Values, values_none, stands_at, values-more, values-all}
+use Rattle.key_table.proofs.LoadLaws.{values_none, stands_at, values-more, values-all}
 use Rattle.key_table.proofs.forms.values_at.Goals as goal
 
 pub loop-i-init : goal.loop-i-init

@@ -1,10 +1,7 @@
 -- The first i records are read after i turns, and behind them are spare ones.
 use Prim.Native.Nat.{◌-◌, ◌≤◌}
-use native.Mathlib.Omega.{arith}
 use lib.ListN.{length}
-use borrow.Author.Rules.{rules}
-use Rattle.stored_table.proofs.IndexLaws.{few-places}
-use Rattle.key_table.proofs.LoadLaws.{Values, values_none, stands_at, values-more, values-all}
+use Rattle.key_table.proofs.LoadLaws.{Values}
 use Rattle.key_table.proofs.forms.values_at.Given as goal
 
 abbrev pub invariant-loop-i : goal.invariant-loop-i

@@ -2,7 +2,6 @@
 use lib.Seq.{take_all}
 use mathlib.Core.Path.{◌∙◌}
 use native.Mathlib.Omega.{arith}
-use borrow.Author.Rules.{rules}
 use Rattle.tlv.proofs.WriteLaws.{front}
 use Rattle.tlv.specs.Firsts.{firsts}
 use Rattle.tlv.proofs.FirstLaws.{firsts-take, firsts-over}

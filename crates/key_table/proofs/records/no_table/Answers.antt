@@ -1,5 +1,4 @@
 -- No record, and 32 spare ones.
-use borrow.Author.Rules.{rules}
 use Rattle.tlv.specs.Firsts.{firsts}
 use Rattle.key_table.specs.Views.{table_value}
 use Rattle.key_table.proofs.records.no_table.Goals as goal

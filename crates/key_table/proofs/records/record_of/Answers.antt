@@ -1,5 +1,4 @@
 -- Each array holds its field.
-use borrow.Author.Rules.{rules}
 use Rattle.key_table.proofs.records.record_of.Goals as goal
 
 pub returns : goal.returns
