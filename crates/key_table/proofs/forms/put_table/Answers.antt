@@ -1,30 +1,28 @@
 use mathlib.Core.Path.{◌≡◌, refl}
-use Prim.Native.Nat.{ℕ, ◌*◌, ◌-◌, ◌≤◌, ◌<◌}
+use Prim.Native.Nat.{ℕ, ◌≤◌, ◌<◌}
 use native.Mathlib.Omega.{arith}
-use lib.ListN.{length, take, get_or, length-map}
+use lib.ListN.{length, get_or}
 use borrow.Author.Rules.{rules}
-use Rattle.model.specs.Records.{encode}
-use Rattle.tlv.specs.Writing.{Wrote}
 use Rattle.key_table.specs.Views.{view_table, no_value}
 use Rattle.key_table.proofs.RuleLaws.{few-records, short-name}
 use Rattle.key_table.proofs.StoreLaws.{stored_none, stored_more, stored-all}
 use Rattle.key_table.proofs.forms.put_table.Goals as goal
 use Rattle.key_table.proofs.forms.put_table.Goals.{Start}
 
-module _ (s : tie.Start invariant-loop decreases-loop) where
-  few : s.args.t2.len ≤ 32
-  few = few-records s.args.t2 s.requires.0
+module _ (s : Start) where
+  few : s.args.t.len ≤ 32
+  few = few-records s.args.t s.requires.t_value
 
-  fits : s.args.t2.len ≤ length s.args.t2.records
+  fits : s.args.t.len ≤ length s.args.t.records
   fits =
-      let size : length s.args.t2.records ≡ 32 = simp length-map at s.good.1.0.1.1.0.1.0.1 in
+      let size : length s.args.t.records ≡ 32 = s.well_formed.1.0.1.1.0.1.0.1 in
       omega (arith, few)
 
-  short : (i : ℕ) → i < s.args.t2.len → (get_or s.args.t2.records i no_value).name_len ≤ 128
-  short = short-name s.args.t2 s.pre.0 fits
+  short : (i : ℕ) → i < s.args.t.len → (get_or s.args.t.records i no_value).name_len ≤ 128
+  short = short-name s.args.t s.requires.t_value fits
 
 pub loop-i-init : goal.loop-i-init
-loop-i-init c = (search rules, few (goal.at.loop-i-init c).Start, refl, search rules, stored_none _ (view_table c.args.t2))
+loop-i-init c = (search rules, few (goal.at.loop-i-init c).Start, refl, search rules, stored_none _ (view_table c.args.t))
 
 pub put_value-at-requires : goal.put_value-at-requires
 put_value-at-requires c =
@@ -38,8 +36,8 @@ loop-i-preserved c =
       l.invariant.1,
       search rules,
       omega (arith, short (goal.at.loop-i-preserved c).Start l.i (omega arith)),
-      stored_more c.args.t2 (fits (goal.at.loop-i-preserved c).Start) l.i (omega arith) l.invariant.4 c.put_value-at.ensures,
+      stored_more c.args.t (fits (goal.at.loop-i-preserved c).Start) l.i (omega arith) l.invariant.4 c.put_value-at.ensures,
     )
 
 pub returns : goal.returns
-returns c = stored-all c.args.t2 c.loop-i.i (omega arith) c.loop-i.invariant.4
+returns c = stored-all c.args.t c.loop-i.i (omega arith) c.loop-i.invariant.4

@@ -1,14 +1,10 @@
 -- The first i records are written after i turns, in at most 216 bytes each.
-use mathlib.Core.Path.{◌≡◌, refl}
-use Prim.Native.Nat.{ℕ, ◌*◌, ◌-◌, ◌≤◌, ◌<◌}
-use native.Mathlib.Omega.{arith}
-use lib.ListN.{length, take, get_or, length-map}
-use borrow.Author.Rules.{rules}
+use mathlib.Core.Path.{◌≡◌}
+use Prim.Native.Nat.{◌*◌, ◌-◌, ◌≤◌}
+use lib.ListN.{length, take}
 use Rattle.model.specs.Records.{encode}
 use Rattle.tlv.specs.Writing.{Wrote}
-use Rattle.key_table.specs.Views.{view_table, no_value}
-use Rattle.key_table.proofs.RuleLaws.{few-records, short-name}
-use Rattle.key_table.proofs.StoreLaws.{stored_none, stored_more, stored-all}
+use Rattle.key_table.specs.Views.{view_table}
 use Rattle.key_table.proofs.forms.put_table.Given as goal
 
 abbrev pub invariant-loop-i : goal.invariant-loop-i

@@ -1,15 +1,10 @@
 -- After i turns the test of all records is the test of those from i on.
-use mathlib.Core.Path.{◌≡◌, refl, sym, ◌∙◌}
+use mathlib.Core.Path.{◌≡◌}
 use Prim.Native.Nat.{◌-◌, ◌≤◌}
-use lib.ListN.{length, drop, length-map}
-use native.Mathlib.Omega.{arith}
-use borrow.Author.Rules.{rules}
-use borrow.Author.Tests.{not-true, not-false}
+use lib.ListN.{drop}
 use Rattle.model.specs.Lists.{all}
 use Rattle.model.specs.Records.{record_ok}
 use Rattle.key_table.specs.Views.{view_table}
-use Rattle.key_table.proofs.ViewLaws.{length-view, view_at}
-use Rattle.key_table.proofs.RuleLaws.{all_done, all-next}
 use Rattle.key_table.proofs.rules.each_ok.Given as goal
 
 abbrev pub invariant-loop-i : goal.invariant-loop-i

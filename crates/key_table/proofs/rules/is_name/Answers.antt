@@ -4,5 +4,4 @@ use lib.Seq.{length-take-le}
 use Rattle.key_table.proofs.rules.is_name.Goals as goal
 
 pub slice_bounds-is_username-end : goal.slice_bounds-is_username-end
-slice_bounds-is_username-end c =
-    let s = c.before.before in sym (length-take-le s.args.n s.args.v.now s.requires)
+slice_bounds-is_username-end c = sym (length-take-le c.args.n c.args.v.now c.requires)

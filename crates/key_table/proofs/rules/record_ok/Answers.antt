@@ -1,8 +1,6 @@
 -- The types leave only the name to test.
 use mathlib.Core.Path.{sym, ◌∙◌}
-use lib.ListN.{length-map}
 use native.Mathlib.Omega.{arith}
-use borrow.Author.Rules.{rules}
 use Rattle.key_table.proofs.RuleLaws.{Typed, name_long, name-within}
 use Rattle.key_table.proofs.rules.record_ok.Goals as goal
 use Rattle.key_table.proofs.rules.record_ok.Goals.{Start}
@@ -12,9 +10,9 @@ typed : (c : Start) → Typed c.args.r
 typed c =
     let g = c.well_formed.0.1.1 in
     record {
-      key-id = simp length-map at g.0.1.0.1;
-      mixed = simp length-map at g.1.0.1.0.1;
-      name = simp length-map at g.1.1.0.1.0.1;
+      key-id = g.0.1.0.1;
+      mixed = g.1.0.1.0.1;
+      name = g.1.1.0.1.0.1;
       count = omega (arith, g.1.1.1.1.0.1);
     }
 

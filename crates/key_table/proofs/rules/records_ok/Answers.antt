@@ -1,5 +1,4 @@
 -- Too many records, or each as it is tested.
-use borrow.Author.Rules.{rules}
 use borrow.Author.Tests.{le-leb, lt-leb}
 use Rattle.key_table.proofs.ViewLaws.{length-view}
 use Rattle.key_table.proofs.rules.records_ok.Goals as goal
