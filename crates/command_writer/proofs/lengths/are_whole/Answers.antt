@@ -1,8 +1,6 @@
-use mathlib.Core.Path.{◌≡◌, refl, sym, ◌∙◌}
-use Prim.Native.Nat.{◌-◌, ◌≤◌}
-use lib.ListN.{length, drop}
+use mathlib.Core.Path.{refl, sym, ◌∙◌}
 use borrow.Author.Rules.{rules}
-use Rattle.command_writer.proofs.HandleLaws.{whole, whole-not, whole-more, whole-end}
+use Rattle.command_writer.proofs.HandleLaws.{whole-not, whole-more, whole-end}
 use Rattle.command_writer.proofs.lengths.are_whole.Goals as goal
 
 pub loop-i-init : goal.loop-i-init

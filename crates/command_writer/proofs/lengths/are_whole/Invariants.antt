@@ -1,9 +1,8 @@
 -- After i turns the first i lengths are a key handle's, so the rest decides.
-use mathlib.Core.Path.{◌≡◌, refl, sym, ◌∙◌}
+use mathlib.Core.Path.{◌≡◌}
 use Prim.Native.Nat.{◌-◌, ◌≤◌}
 use lib.ListN.{length, drop}
-use borrow.Author.Rules.{rules}
-use Rattle.command_writer.proofs.HandleLaws.{whole, whole-not, whole-more, whole-end}
+use Rattle.command_writer.proofs.HandleLaws.{whole}
 use Rattle.command_writer.proofs.lengths.are_whole.Given as goal
 
 abbrev pub invariant-loop-i : goal.invariant-loop-i

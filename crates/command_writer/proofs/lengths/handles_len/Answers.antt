@@ -1,7 +1,6 @@
 -- At most eight lengths, each 32, that add up to the stretch: a header and 32 bytes for each.
 use mathlib.Core.Path.{sym, ◌∙◌}
 use native.Mathlib.Omega.{arith}
-use borrow.Author.Rules.{rules}
 use borrow.Author.Tests.{not-true, not-false}
 use Rattle.model.proofs.Basics.{clash}
 use Rattle.command_writer.proofs.HandleLaws.{handles-not, handles-take}

@@ -1,7 +1,6 @@
 -- By the mark nothing is taken, or too much, or what a value that is given takes.
 use mathlib.Core.Path.{sym, ◌∙◌}
 use native.Mathlib.Omega.{arith}
-use borrow.Author.Rules.{rules}
 use Rattle.command_writer.proofs.LengthLaws.{marked-none, marked-one, marked-not}
 use Rattle.command_writer.proofs.lengths.marked_len.Goals as goal
 

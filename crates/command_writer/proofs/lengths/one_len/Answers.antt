@@ -1,7 +1,6 @@
 -- A value that fits takes its header and its bytes, at most 8,192 of them.
 use mathlib.Core.Path.{sym, ◌∙◌}
 use native.Mathlib.Omega.{arith}
-use borrow.Author.Rules.{rules}
 use borrow.Author.Tests.{not-true, not-false}
 use Rattle.command_writer.proofs.LengthLaws.{one-fits, one-not, slot_most}
 use Rattle.command_writer.proofs.lengths.one_len.Goals as goal

@@ -1,15 +1,10 @@
 -- After i turns the first i handles are written, and there is room for the rest.
-use mathlib.Core.Path.{◌≡◌, refl, ap}
+use mathlib.Core.Path.{◌≡◌}
 use Prim.Native.Nat.{◌*◌, ◌-◌, ◌≤◌}
-use native.Mathlib.Omega.{arith}
 use lib.ListN.{length}
-use borrow.Author.Rules.{rules}
 use Rattle.model.specs.Tlv.{bytes}
 use Rattle.tlv.specs.Writing.{Wrote}
-use Rattle.tlv.proofs.WriteLaws.{same}
 use Rattle.command_writer.specs.Parts.{handle_tlvs}
-use Rattle.command_writer.proofs.HandleLaws.{handle_part, handle_size}
-use Rattle.command_writer.proofs.PartLaws.{no_handles, one_handle}
 use Rattle.command_writer.proofs.parts.put_handles.Given as goal
 
 abbrev pub invariant-loop-i : goal.invariant-loop-i

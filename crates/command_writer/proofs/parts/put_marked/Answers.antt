@@ -1,7 +1,6 @@
 -- Where the mark is 1 the TLV is written, else nothing.
 use native.Mathlib.Omega.{arith}
 use lib.ListN.{length}
-use borrow.Author.Rules.{rules}
 use Rattle.command_writer.proofs.PartLaws.{given-size, wrote-given, wrote-not-given}
 use Rattle.command_writer.proofs.parts.put_marked.Goals as goal
 

@@ -1,7 +1,6 @@
 -- A header, the index and the AppID, one after the other.
 use mathlib.Core.Path.{refl}
 use native.Mathlib.Omega.{arith}
-use borrow.Author.Rules.{rules}
 use Rattle.tlv.proofs.WriteLaws.{then, then_run, same}
 use Rattle.command_writer.proofs.parts.put_opening.Goals as goal
 

@@ -1,6 +1,5 @@
 -- The opening says the length of all, and two fields follow.
 use native.Mathlib.Omega.{arith}
-use borrow.Author.Rules.{rules}
 use Rattle.model.specs.Tlv.{deregister}
 use Rattle.tlv.proofs.WriteLaws.{then_run}
 use Rattle.command_writer.proofs.PartLaws.{opened}

@@ -1,6 +1,5 @@
 -- The opening says the length of all, and five fields follow.
 use native.Mathlib.Omega.{arith}
-use borrow.Author.Rules.{rules}
 use Rattle.model.specs.Tlv.{register}
 use Rattle.tlv.proofs.WriteLaws.{then_run}
 use Rattle.command_writer.proofs.PartLaws.{opened}

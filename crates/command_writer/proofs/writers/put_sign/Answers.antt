@@ -1,6 +1,5 @@
 -- The opening says the length of all, and four fields and the key handles follow.
 use native.Mathlib.Omega.{arith}
-use borrow.Author.Rules.{rules}
 use Rattle.model.specs.Tlv.{sign}
 use Rattle.tlv.proofs.WriteLaws.{then_run}
 use Rattle.command_writer.proofs.PartLaws.{opened}

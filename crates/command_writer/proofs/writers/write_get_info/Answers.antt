@@ -1,7 +1,6 @@
 -- A header alone, which says that nothing follows.
 use mathlib.Core.Path.{refl}
 use mathlib.Core.List.{[]}
-use borrow.Author.Rules.{rules}
 use Rattle.model.specs.Tlv.{le, bytes, get_info}
 use Rattle.model.specs.Writer.{children_for, command_of}
 use Rattle.fields.proofs.RefusalLaws.{ends-refused, ends-wrote}

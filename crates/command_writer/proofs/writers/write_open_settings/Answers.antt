@@ -1,7 +1,6 @@
 -- A header, and the index.
 use mathlib.Core.List.{[], ◌∷◌}
 use native.Mathlib.Omega.{arith}
-use borrow.Author.Rules.{rules}
 use Rattle.model.specs.Tlv.{open_settings}
 use Rattle.model.specs.Writer.{one, children_for, command_of}
 use Rattle.tlv.proofs.WriteLaws.{then_value}

@@ -1,6 +1,5 @@
 -- The sum tells the refusals, and else the command is written.
 use mathlib.Core.Path.{◌∙◌, ap}
-use borrow.Author.Rules.{rules}
 use Rattle.model.specs.Tlv.{register}
 use Rattle.model.specs.Commands.{gave}
 use Rattle.fields.proofs.RefusalLaws.{ends-refused, ends-wrote}
