@@ -4,11 +4,10 @@ use Rattle.model.specs.Tlv.{sign}
 use Rattle.tlv.proofs.WriteLaws.{then_run}
 use Rattle.command_writer.proofs.PartLaws.{opened}
 use Rattle.command_writer.proofs.writers.put_sign.Goals as goal
-use Rattle.command_writer.proofs.writers.put_sign.Goals.{After-put_marked-arg-1}
 
 pub put_handles-requires : goal.put_handles-requires
 put_handles-requires c =
-    (c.requires.handles_len, omega (arith, (goal.at.put_handles-requires c).After-put_marked-arg-1))
+    (c.requires.handles_len, omega arith)
 
 pub returns : goal.returns
 returns c =

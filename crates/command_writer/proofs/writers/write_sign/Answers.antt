@@ -1,6 +1,5 @@
 -- The sum tells the refusals, and else the command is written.
 use mathlib.Core.Path.{◌∙◌, ap}
-use borrow.Author.Rules.{rules}
 use Rattle.model.specs.Tlv.{sign}
 use Rattle.model.specs.Commands.{gave}
 use Rattle.fields.proofs.RefusalLaws.{ends-refused, ends-wrote}
@@ -16,10 +15,8 @@ returns-then-refusal-ne0 c =
 pub put_sign-requires : goal.put_sign-requires
 put_sign-requires c =
     let n = sign_counts _ _ _ _ _ _ _ _ _ _ c.marked_len.ensures.0 c.one_len.ensures.0 c.marked_len-2.ensures.0 c.one_len-2.ensures.0 c.marked_len-3.ensures.0 c.handles_len.ensures.0 in
-    let a = accepts sign _ n.total _ c.refusal_of-refusal.ensures c.if-refusal-ne0.false in (
-      handles-add_up _ _ _ c.handles_len.ensures.0 a.0,
-      (n.sizes a.0, a.1),
-    )
+    let a = accepts sign _ n.total _ c.refusal_of-refusal.ensures c.if-refusal-ne0.false in
+    record { handles_len = handles-add_up _ _ _ c.handles_len.ensures.0 a.0; len_value = (n.sizes a.0, a.1) }
 
 pub returns : goal.returns
 returns c =
