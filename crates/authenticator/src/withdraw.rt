@@ -1,6 +1,7 @@
 ghost use Rattle.std.specs.Prelude.{◌≡◌, ◌&&◌, length};
 ghost use Rattle.std.proofs.Math.Option.{some};
-ghost use Rattle.model.specs.Tlv.{fits, key_id, mixed_token};
+ghost use Rattle.model.specs.Tlv as model;
+ghost use Rattle.model.specs.Tlv.{fits, mixed_token};
 ghost use Rattle.model.specs.Records.{encode};
 ghost use Rattle.model.specs.Commands.{stored, on_gave};
 ghost use Rattle.model.specs.Withdrawals.{withdraw};
@@ -16,7 +17,7 @@ use stored_table::records::{MAX_RECORDS, MAX_STORED};
 
 // Whether mixed token and KeyID have their lengths.
 fn are_sized(mixed: &[u8], key_id: &[u8]) -> bool
-    ensures { result ≡ (fits mixed_token mixed.now && fits key_id key_id.now) }
+    ensures { result ≡ (fits mixed_token mixed.now && fits model.key_id key_id.now) }
 {
     if !fits(Field::MixedToken, mixed) {
         return false;

@@ -4,7 +4,6 @@ use mathlib.Core.Option.{some}
 use Prim.Native.Nat.{◌≤◌}
 use native.Mathlib.Nat.{sub-zero}
 use lib.ListN.{length}
-use borrow.Author.Rules.{rules}
 use borrow.Author.Tests.{not-true, not-false}
 use Rattle.model.specs.Records.{max_stored}
 use Rattle.model.specs.Commands.{least_output, stored, table_of}
@@ -12,17 +11,14 @@ use Rattle.model.proofs.Refusals.{short-output, no_table, no-command, wrongly-le
 use Rattle.stored_table.specs.Stored.{table_in}
 use Rattle.authenticator.proofs.CallLaws.{ends-refused, ends_same, too_short, long_enough, read_is, not_read, kind-named}
 use Rattle.authenticator.proofs.call.call.Goals as goal
-use Rattle.authenticator.proofs.call.call.Goals.{After-is_short, After-struct_known-1, Else-is_short, Else-not-index}
-
-abbrev start : tie.Else1 → tie.Start
-start c = c.before.before.before.before.before.before.before.before.before.before.before
+use Rattle.authenticator.proofs.call.call.Goals.{Else-is_short, Else-not-index}
 
 -- past refusal 1 both outputs are long enough
-room : (c : Else-is_short) → (least_output ≤ length (start c).args.response.now) × (max_stored ≤ length (start c).args.table-out.now)
+room : (c : Else-is_short) → (least_output ≤ length c.args.response.now) × (max_stored ≤ length c.args.table_out.now)
 room c = long_enough _ _ c.is_short.ensures c.if-is_short.false
 
 -- past refusal 2 there is a table
-read : (c : Else-not-index) → let s = (start c.PLACE-Else-is_short).args.table in table_of (stored s.now) ≡ some (table_in s.now)
+read : (c : Else-not-index) → let s = c.args.table in table_of (stored s.now) ≡ some (table_in s.now)
 read c = read_is _ c.index_of-index.ensures (not-false _ c.if-not-index.false)
 
 pub returns-then-is_short : goal.returns-then-is_short
@@ -49,14 +45,18 @@ returns-then-not-lent_ok c =
 
 pub perform-requires : goal.perform-requires
 perform-requires c =
-    let k = c.index_of in
-    let e = sym c.lent_ok.ensures ∙ not-false _ c.if3.false in
-    (e, (rw (sub-zero k.result.len) (k.ensures.indexed (not-false _ c.if2.false)), room (goal.at.perform-requires c).After-is_short))
+    let k = c.index_of-index in
+    let e = sym c.lent_ok.ensures ∙ not-false _ c.if-not-lent_ok.false-raw in
+    record {
+      nonce_value = e;
+      indexed = rw (sub-zero k.result.len) (k.ensures.indexed (not-false _ c.if-not-index.false));
+      least_output_in_bounds = room (goal.at.perform-requires c).Else-is_short;
+    }
 
 pub returns : goal.returns
 returns c =
-    let r = room (goal.at.returns c).After-is_short in
+    let r = room (goal.at.returns c).Else-is_short in
     ends_same _
-    (performs _ _ r.0 r.1 _ (read (goal.at.returns c).After-struct_known-1) _ (kind-named c.named.given.1 c.kind-of.ensures)
-    (sym c.lent_ok.ensures ∙ not-false _ c.if3.false))
+    (performs _ _ r.0 r.1 _ (read (goal.at.returns c).Else-not-index) _ (kind-named c.in-Command.is c.kind_of-named.ensures)
+    (sym c.lent_ok.ensures ∙ not-false _ c.if-not-lent_ok.false-raw))
     c.perform.ensures

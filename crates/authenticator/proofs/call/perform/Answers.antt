@@ -3,17 +3,9 @@ use mathlib.Core.Path.{◌≡◌, refl}
 use lib.ListN.{length}
 use native.Mathlib.Nat.{sub-zero}
 use borrow.Author.Rules.{rules}
-use Rattle.stored_table.specs.Stored.{Indexed}
 use Rattle.authenticator.proofs.CallLaws.{register-lent, challenge-ordered, reply-ready, reply-short, reply-fits, ends-gave}
 use Rattle.authenticator.proofs.call.perform.Goals as goal
-use Rattle.authenticator.proofs.call.perform.Goals.{After-mixed_token-mixed, After-params_of-params}
-
-abbrev start : tie.After-params-of → tie.Start
-start c = c.before.before.before.before.before.before.before.before.before.before.before.before
-
--- the records start at the places that are lent
-indexed : (c : After-params_of-params) → let a = (start c).args in Indexed a.table.now a.places.now
-indexed c = (start c).requires.1.0
+use Rattle.authenticator.proofs.call.perform.Goals.{After-mixed_token-mixed}
 
 pub returns : goal.returns
 returns c =
@@ -29,30 +21,41 @@ mixed-size c = search rules
 
 pub decide-decision-requires : goal.decide-decision-requires
 decide-decision-requires c =
-    (c.params_of-params.ensures, ((λ e. (search rules, register-lent _ (start (goal.at.decide-decision-requires c).After-params_of-params).requires.0 e)), (indexed (goal.at.decide-decision-requires c).After-params_of-params, refl)))
+    record {
+      params_read = c.params_of-params.ensures;
+      mixed_len = λ e. (search rules, register-lent _ c.requires.nonce_value e);
+      indexed = (c.requires.indexed, refl);
+    }
 
 pub reply_len-len-requires : goal.reply_len-len-requires
 reply_len-len-requires c =
     let k = c.decide-decision.ensures in
-    ((challenge-ordered c.params_of-params.ensures.0, rw sub-zero (reply-short k _ _ _ _ (start (goal.at.reply_len-len-requires c).After-params_of-params).requires.0)), indexed (goal.at.reply_len-len-requires c).After-params_of-params)
+    record {
+      start_le_end = (challenge-ordered c.params_of-params.ensures.0, rw sub-zero (reply-short k _ _ _ _ c.requires.nonce_value));
+      indexed = c.requires.indexed;
+    }
 
 pub write_reply-requires : goal.write_reply-requires
 write_reply-requires c =
-    let s = (start (goal.at.write_reply-requires c).After-params_of-params).requires in
+    let s = c.requires in
     let k = c.decide-decision.ensures in
     let e = c.reply_len-len.ensures in
-    let fits = reply-fits k _ _ _ _ s.0 _ _ (indexed (goal.at.write_reply-requires c).After-params_of-params).ok (rw sub-zero at e) s.1.1.0 in
-    (rw sub-zero (reply-ready k _ _ _ _ s.0), (indexed (goal.at.write_reply-requires c).After-params_of-params, (e, fits)))
+    let fits = reply-fits k _ _ _ _ s.nonce_value _ _ s.indexed.ok (rw sub-zero at e) s.least_output_in_bounds.0 in
+    record { ready = rw sub-zero (reply-ready k _ _ _ _ s.nonce_value); indexed = s.indexed; len_value = (e, fits) }
 
 pub put_left-table_len-requires : goal.put_left-table_len-requires
 put_left-table_len-requires c =
-    (indexed (goal.at.put_left-table_len-requires c).After-params_of-params, (c.decide-decision.ensures.can, (start (goal.at.put_left-table_len-requires c).After-params_of-params).requires.1.1.1))
+    record {
+      indexed = c.requires.indexed;
+      can = c.decide-decision.ensures.can;
+      max_stored_in_bounds = c.requires.least_output_in_bounds.1;
+    }
 
 pub params_of-params-requires : goal.params_of-params-requires
 params_of-params-requires c = refl
 
 pub slice_bounds-named-end : goal.slice_bounds-named-end
-slice_bounds-named-end c = c.decide.ensures.within
+slice_bounds-named-end c = c.decide-decision.ensures.within
 
 pub slice_bounds-put_left-end : goal.slice_bounds-put_left-end
 slice_bounds-put_left-end c = mixed-size (goal.at.slice_bounds-put_left-end c).After-mixed_token-mixed

@@ -5,7 +5,6 @@ use mathlib.Core.Option.{some}
 use Prim.Native.Nat.{◌≤◌}
 use native.Mathlib.Omega.{arith}
 use lib.ListN.{length}
-use borrow.Author.Rules.{rules}
 use borrow.Author.Tests.{not-true, not-false}
 use Rattle.model.specs.Tlv.{fits, key_id, mixed_token}
 use Rattle.model.specs.Records.{max_stored, encode}
@@ -17,23 +16,17 @@ use Rattle.stored_table.proofs.ChangeLaws.{stored-most}
 use Rattle.authenticator.proofs.CallLaws.{read_is, not_read}
 use Rattle.authenticator.proofs.WithdrawLaws.{places_found, wrongly_sized, not-withdrawable, withdraws}
 use Rattle.authenticator.proofs.withdraw.withdraw.Goals as goal
-use Rattle.authenticator.proofs.withdraw.withdraw.Goals.{After-are_sized, After-struct_known-1, Else-not-are_sized, Else-not-index, Else-table_out-lt-MAX_STORED}
+use Rattle.authenticator.proofs.withdraw.withdraw.Goals.{Else-not-are_sized, Else-not-index, Else-table_out-lt-MAX_STORED}
 
 pub returns-then-table_out-lt-MAX_STORED : goal.returns-then-table_out-lt-MAX_STORED
 returns-then-table_out-lt-MAX_STORED c = ends-refused 1 (ap (on_gave encode) (withdraw-short _ _ c.if-table_out-lt-MAX_STORED.true))
 
-abbrev start : tie.Else1 → tie.Start
-start c = c.before.before.before.before.before
-
 -- past refusal 1 the output is long enough
-room : (c : Else-table_out-lt-MAX_STORED) → max_stored ≤ length (start c).args.table-out.now
+room : (c : Else-table_out-lt-MAX_STORED) → max_stored ≤ length c.args.table_out.now
 room c = c.if-table_out-lt-MAX_STORED.false
 
-abbrev long : tie.Else2 → tie.Else1
-long c = c.before.before.before.before
-
 -- past refusal 2 there is a table
-read : (c : Else-not-index) → let s = (start (long c)).args.table in table_of (stored s.now) ≡ some (table_in s.now)
+read : (c : Else-not-index) → let s = c.args.table in table_of (stored s.now) ≡ some (table_in s.now)
 read c = read_is _ c.index_of-index.ensures (not-false _ c.if-not-index.false)
 
 pub returns-then-not-index : goal.returns-then-not-index
@@ -43,30 +36,30 @@ returns-then-not-index c =
 pub returns-then-not-are_sized : goal.returns-then-not-are_sized
 returns-then-not-are_sized c =
     ends-refused 4
-    (ap (on_gave encode) (wrongly_sized _ _ (room (long (goal.at.returns-then-not-are_sized c).Else-not-index)) _ (read (goal.at.returns-then-not-are_sized c).Else-not-index) (sym c.are_sized.ensures ∙ not-true _ c.if-not-are_sized.true-raw)))
+    (ap (on_gave encode) (wrongly_sized _ _ (room (goal.at.returns-then-not-are_sized c).Else-table_out-lt-MAX_STORED) _ (read (goal.at.returns-then-not-are_sized c).Else-not-index) (sym c.are_sized.ensures ∙ not-true _ c.if-not-are_sized.true-raw)))
 
 -- past refusal 4 both have their lengths
-sized : (c : Else-not-are_sized) → let a = (start (long c.PLACE-Else-not-index)).args in
-    (fits mixed_token a.mixed.now && fits key_id a.key-id.now) ≡ true
+sized : (c : Else-not-are_sized) → let a = c.args in
+    (fits mixed_token a.mixed.now && fits key_id a.key_id.now) ≡ true
 sized c = sym c.are_sized.ensures ∙ not-false _ c.if-not-are_sized.false-raw
 
 pub is_withdrawable-requires : goal.is_withdrawable-requires
 is_withdrawable-requires c =
-    places_found c.index_of.ensures (not-false _ c.if2.false)
+    places_found c.index_of-index.ensures (not-false _ c.if-not-index.false)
 
 pub returns-then-not-is_withdrawable : goal.returns-then-not-is_withdrawable
 returns-then-not-is_withdrawable c =
     ends-refused 7
     (ap (on_gave encode)
-    (not-withdrawable _ _ (room (long (goal.at.returns-then-not-is_withdrawable c).After-struct_known-1)) _ (read (goal.at.returns-then-not-is_withdrawable c).After-struct_known-1) (sized (goal.at.returns-then-not-is_withdrawable c).After-are_sized) c.is_withdrawable.ensures (not-true _ c.if-not-is_withdrawable.true-raw)))
+    (not-withdrawable _ _ (room (goal.at.returns-then-not-is_withdrawable c).Else-table_out-lt-MAX_STORED) _ (read (goal.at.returns-then-not-is_withdrawable c).Else-not-index) (sized (goal.at.returns-then-not-is_withdrawable c).Else-not-are_sized) c.is_withdrawable.ensures (not-true _ c.if-not-is_withdrawable.true-raw)))
 
 pub put_removed-requires : goal.put_removed-requires
 put_removed-requires c =
-    let x = places_found c.index_of.ensures (not-false _ c.if2.false) in
-    (x, omega (arith, stored-most x, room (long (goal.at.put_removed-requires c).After-struct_known-1)))
+    let x = places_found c.index_of-index.ensures (not-false _ c.if-not-index.false) in
+    (x, omega (arith, stored-most x, room (goal.at.put_removed-requires c).Else-table_out-lt-MAX_STORED))
 
 pub returns : goal.returns
 returns c =
     ends-wrote
-    (ap (on_gave encode) (withdraws _ _ (room (long (goal.at.returns c).After-struct_known-1)) _ (read (goal.at.returns c).After-struct_known-1) (sized (goal.at.returns c).After-are_sized) c.is_withdrawable.ensures (not-false _ c.if-not-is_withdrawable.false-raw)))
+    (ap (on_gave encode) (withdraws _ _ (room (goal.at.returns c).Else-table_out-lt-MAX_STORED) _ (read (goal.at.returns c).Else-not-index) (sized (goal.at.returns c).Else-not-are_sized) c.is_withdrawable.ensures (not-false _ c.if-not-is_withdrawable.false-raw)))
     c.put_removed.ensures
