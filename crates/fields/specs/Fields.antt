@@ -1,5 +1,5 @@
 -- Which field of `model` each of the code's is, and that a size of the code is its rule's.
-use Rattle.std.specs.Prelude.{◌≡◌, true, List, ℕ}
+use Rattle.std.specs.Prelude.{◌≡◌}
 use Rattle.model.specs.Tlv as model
 use Rattle.model.specs.Tlv.{rule_of}
 use Rattle.fields.specs.declared.sizes.Size.{Size}

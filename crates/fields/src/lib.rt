@@ -1,5 +1,7 @@
 // The fields of commands, records, lent results, responses and drafts: each one's tag and lengths in one table, and whether a value that is lent
 // obeys its rule. Beside it the refusals, in one list.
+#![tactic(auto)]
+
 pub mod refusals;
 pub mod sizes;
 pub mod tags;

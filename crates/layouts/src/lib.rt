@@ -1,6 +1,8 @@
 // Structures whose fields stand in a fixed order, read from place to place: each function gives the place where the next thing starts, and
 // one past the stretch's end where something else stands. Nothing is found there, so a structure is read without a test between its fields.
 // What is asked of a field is given as constants, so that each call is compiled to a few comparisons.
+#![tactic(auto)]
+
 ghost use Rattle.std.specs.Prelude.{◌≡◌, true};
 ghost use Rattle.model.specs.Lists.{eq_bytes};
 ghost use Rattle.model.specs.Tlv.{rule, sized, username, assertion_info, content_hash, no_counts, new_count, krd_tag, pair_tag};

@@ -10,7 +10,7 @@ use lib.ListN.{length, get_or, take, drop}
 use lib.Dec.{leb, eqb}
 use borrow.Author.Tests.{leb-true, lt-ltb, eqb-true, eqb-false, eq-eqb}
 use Rattle.model.specs.Lists.{all, any, select, empty, eq_bytes, among, distinct}
-use Rattle.model.specs.Tlv.{le, fits, aaid, metadata, challenge_hash, key_id, public_key, username, nonce, content_hash, key_handle, new_count, Kind, get_info, register, sign, deregister, open_settings, kinds, broken, fields_in, field_in, response_tag}
+use Rattle.model.specs.Tlv.{le, fits, aaid, metadata, challenge_hash, key_id, public_key, username, nonce, key_handle, new_count, Kind, get_info, register, sign, deregister, open_settings, kinds, broken, fields_in, field_in, response_tag}
 use Rattle.model.specs.Layouts.{Layout, end, size}
 use Rattle.model.specs.Records.{Record, Table, record_ok, has_mixed, own, key_ids, max_count, max_own}
 use Rattle.model.specs.Commands.{statuses, verdict_statuses, display_statuses, bytes_of, Lent, profile_ok, lent_ok, Call, mixed_of, Given, Check, judge, gave, Answer, response, draft, Change, keep, Decision, Effect, status_only, only, info, info_fields, info_response, decide_get_info, key_registration_data, register_fields, register_draft, register_checks, decide_register, chosen, name_pairs, name_list, name_fields, name_response, signed_data, has_content, transaction_hash, sign_fields, sign_draft, sign_one, sign_chosen, decide_sign, decide_deregister, decide_open_settings, decide, perform, kind, outcome, least_output}

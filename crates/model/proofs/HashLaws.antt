@@ -14,7 +14,7 @@ use Rattle.model.specs.Lists.{eq_bytes, among}
 use Rattle.model.specs.Sha256.{sha256}
 use Rattle.model.specs.Tlv.{Bytes, Kind, get_info, register, sign, deregister, open_settings, app_id, access_token, transaction_content, mixed_token, content_hash, fits, kind_of, broken, field_in}
 use Rattle.model.specs.Records.{Table, max_records, own, key_ids}
-use Rattle.model.specs.Commands.{Lent, Call, kind, mixed_of, apply, Effect, perform_for, perform, Change, keep, Decision, judge, only, mixed_in, has_content, transaction_hash, decide_get_info, decide_register, register_checks, decide_sign, decide_deregister, decide_open_settings, decide}
+use Rattle.model.specs.Commands.{Lent, Call, kind, mixed_of, apply, perform_for, perform, keep, judge, only, mixed_in, has_content, transaction_hash, decide_get_info, decide_register, register_checks, decide_sign, decide_deregister, decide_open_settings, decide}
 use Rattle.model.specs.Traces.{commands, Form, has_token, is_holders, is_holder, is_of}
 use Rattle.model.proofs.Basics.{split, clash, not-not, and_left, and_right, eq_bytes-eq, eq_bytes-refl}
 use Rattle.model.proofs.LayoutLaws.{size_fits}

@@ -9,7 +9,7 @@ use native.Mathlib.Omega.{arith}
 use lib.ListN.{length, take, drop, get_or, replicate}
 use lib.Dec.{leb, lit<}
 use borrow.Author.Tests.{le-leb, eq-eqb}
-use Rattle.model.specs.Tlv.{Bytes, num, le, Tlv, tlv, bytes, header, Field, tag_of, index, challenge_hash, username, attestation_type, access_token, transaction_content, aaid, metadata, fits, Kind, get_info, register, sign, deregister, open_settings, command_tag, fields_of, kind_of, values_of, children_ok, children, broken, fields_in, max_command}
+use Rattle.model.specs.Tlv.{Bytes, num, le, Tlv, tlv, bytes, header, Field, tag_of, index, challenge_hash, username, attestation_type, access_token, transaction_content, fits, Kind, get_info, register, sign, deregister, open_settings, command_tag, fields_of, kind_of, values_of, children_ok, children, broken, fields_in, max_command}
 use Rattle.model.specs.Layouts.{Layout, end, field, group, size}
 use Rattle.model.specs.Records.{Table, table_ok}
 use Rattle.model.specs.Commands.{Lent, Call, value, gave, Effect, Answer, lent_ok, least_output, judge, table_of, refusals, perform, outcome}

@@ -1,5 +1,4 @@
 -- The length, by the field's size.
-use borrow.Author.Rules.{rules}
 use Rattle.fields.proofs.FieldLaws.{fits-sized}
 use Rattle.fields.proofs.fits.Goals as goal
 

@@ -11,8 +11,8 @@ use Rattle.commands.proofs.sign.judge_one.Goals.{Joined-content, then-content+el
 shown : (c : Joined-content) → let a = c.args in (a.content && not (eqb a.display 0)) ≡ false
 shown c =
     elim c.if-content.branch [
-      then-content+else-display-ne0 w ↦ rw (w.if-content.true, eq-eqb _ _ w.if-display-ne0.false)
-    | else-content w ↦ rw w.if-content.false
+      | then-content+else-display-ne0 w ↦ rw (w.if-content.true, eq-eqb _ _ w.if-display-ne0.false)
+      | else-content w ↦ rw w.if-content.false
     ]
 
 pub returns-then-display-ne0 : goal.returns-then-display-ne0

@@ -1,7 +1,6 @@
-use Rattle.std.proofs.Common.{◌≡◌, ◌-◌, ◌/◌, ◌≤◌, length, drop, sym, ◌∙◌, arith, rules}
+use Rattle.std.proofs.Common.{◌≡◌, ◌-◌, ◌/◌, length, sym, ◌∙◌, arith, rules}
 use native.Mathlib.Nat.{sub-zero}
 use Rattle.model.specs.Sha256.{blocks}
-use Rattle.sha256.specs.Views.{view}
 use Rattle.sha256.proofs.BlockLaws.{blocks-next}
 use Rattle.sha256.proofs.block.blocks.Goals as goal
 

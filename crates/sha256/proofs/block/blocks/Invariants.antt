@@ -1,9 +1,7 @@
 -- Block after block: what is still to come gives what the whole gives.
-use Rattle.std.proofs.Common.{◌≡◌, ◌-◌, ◌/◌, ◌≤◌, length, drop, sym, ◌∙◌, arith, rules}
-use native.Mathlib.Nat.{sub-zero}
+use Rattle.std.proofs.Common.{◌≡◌, ◌-◌, ◌/◌, ◌≤◌, length, drop}
 use Rattle.model.specs.Sha256.{blocks}
 use Rattle.sha256.specs.Views.{view}
-use Rattle.sha256.proofs.BlockLaws.{blocks-next}
 use Rattle.sha256.proofs.block.blocks.Given as goal
 
 abbrev pub invariant-loop-at : goal.invariant-loop-at

@@ -1,5 +1,4 @@
 -- The schedule, the steps and the sum are the definition's, one after the other.
-use Rattle.std.proofs.Common.{rules}
 use Rattle.model.specs.Sha256.{compress, schedule}
 use Rattle.sha256.proofs.block.compress.Goals as goal
 

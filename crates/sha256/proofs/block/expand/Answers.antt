@@ -1,5 +1,4 @@
-use Rattle.std.proofs.Common.{◌≡◌, ℕ, ◌+◌, ◌-◌, ◌*◌, ◌≤◌, List, length, arith, rules}
-use Rattle.sha256.specs.Views.{Begun}
+use Rattle.std.proofs.Common.{◌+◌, ◌*◌, arith, rules}
 use Rattle.sha256.proofs.ScheduleLaws.{as_many, expand_next, no_more}
 use Rattle.sha256.proofs.block.expand.Goals as goal
 

@@ -1,7 +1,6 @@
 -- Word after word: what began as the schedule goes on as the schedule.
-use Rattle.std.proofs.Common.{◌≡◌, ℕ, ◌+◌, ◌-◌, ◌*◌, ◌≤◌, List, length, arith, rules}
+use Rattle.std.proofs.Common.{◌≡◌, ℕ, ◌+◌, ◌-◌, ◌≤◌, List, length}
 use Rattle.sha256.specs.Views.{Begun}
-use Rattle.sha256.proofs.ScheduleLaws.{as_many, expand_next, no_more}
 use Rattle.sha256.proofs.block.expand.Given as goal
 
 abbrev pub invariant-loop-n : goal.invariant-loop-n

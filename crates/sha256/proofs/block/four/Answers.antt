@@ -1,5 +1,4 @@
 -- Four steps are four of the definition's.
-use Rattle.std.proofs.Common.{rules}
 use Rattle.sha256.proofs.ScheduleLaws.{four_steps}
 use Rattle.sha256.proofs.block.four.Goals as goal
 

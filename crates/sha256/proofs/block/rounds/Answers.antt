@@ -1,6 +1,6 @@
-use Rattle.std.proofs.Common.{◌≡◌, ◌+◌, ◌-◌, ◌*◌, ◌≤◌, length, take, refl, arith, length-take-le, rules}
-use Rattle.model.specs.Sha256.{extend, steps}
-use Rattle.sha256.specs.Views.{view, Begun}
+use Rattle.std.proofs.Common.{◌≡◌, ◌+◌, ◌*◌, length, take, refl, arith, length-take-le, rules}
+use Rattle.model.specs.Sha256.{steps}
+use Rattle.sha256.specs.Views.{Begun}
 use Rattle.sha256.proofs.ScheduleLaws.{as_many, begun, four_more}
 use Rattle.sha256.proofs.block.rounds.Goals as goal
 

@@ -1,8 +1,7 @@
 -- Four words and four steps a turn: what stands after n turns is what 4 * n steps give.
-use Rattle.std.proofs.Common.{◌≡◌, ◌+◌, ◌-◌, ◌*◌, ◌≤◌, length, take, refl, arith, length-take-le, rules}
+use Rattle.std.proofs.Common.{◌≡◌, ◌+◌, ◌-◌, ◌*◌, ◌≤◌, length, take}
 use Rattle.model.specs.Sha256.{extend, steps}
 use Rattle.sha256.specs.Views.{view, Begun}
-use Rattle.sha256.proofs.ScheduleLaws.{as_many, begun, four_more}
 use Rattle.sha256.proofs.block.rounds.Given as goal
 
 abbrev pub invariant-loop-turn : goal.invariant-loop-turn

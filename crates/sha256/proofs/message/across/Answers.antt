@@ -1,5 +1,4 @@
 -- What is left is less than a block, or the block across the seam is compressed.
-use Rattle.std.proofs.Common.{rules}
 use Rattle.sha256.proofs.PartLaws.{across_is}
 use Rattle.sha256.proofs.message.across.Goals as goal
 

@@ -1,5 +1,4 @@
 -- The first part's whole blocks, then all that is left.
-use Rattle.std.proofs.Common.{rules}
 use Rattle.sha256.proofs.PartLaws.{hash_is}
 use Rattle.sha256.proofs.message.hash.Goals as goal
 

@@ -1,5 +1,5 @@
 -- There is room for the length in the block, or it goes into one of its own.
-use Rattle.std.proofs.Common.{◌++◌, length-append, rules}
+use Rattle.std.proofs.Common.{◌++◌, length-append}
 use Rattle.sha256.proofs.PaddingLaws.{room, last-short, last_long}
 use Rattle.sha256.proofs.message.last.Goals as goal
 

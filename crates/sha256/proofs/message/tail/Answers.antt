@@ -1,5 +1,5 @@
 -- Whole blocks, then what is left of the last.
-use Rattle.std.proofs.Common.{[], ◌∙◌, append-nil, rules}
+use Rattle.std.proofs.Common.{[], ◌∙◌, append-nil}
 use Rattle.sha256.proofs.PartLaws.{part-is}
 use Rattle.sha256.proofs.message.tail.Goals as goal
 

@@ -7,7 +7,7 @@ use Rattle.stored_table.specs.Changes.{stay_first}
 use Rattle.stored_table.proofs.left.next_going.Given as goal
 
 abbrev pub invariant-loop-j : goal.invariant-loop-j
-invariant-loop-j l = 
+invariant-loop-j l =
     (l.j ≤ length l.places) × (l.i + stay_first l.mixed l.key (drop l.i (table_in l.table)) ≡ l.j + stay_first l.mixed l.key (drop l.j (table_in l.table)))
 
 abbrev pub decreases-loop-j : goal.decreases-loop-j

@@ -8,7 +8,7 @@ use Rattle.stored_table.specs.Changes.{staying_of}
 use Rattle.stored_table.proofs.left.put_removed.Given as goal
 
 abbrev pub invariant-loop-i : goal.invariant-loop-i
-invariant-loop-i l = 
+invariant-loop-i l =
     (length l.out ≡ length l.initial.out) × Wrote l.initial.out 0 (staying_of l.mixed l.key (take l.i (table_in l.table))) l.end l.out l.end
 
 abbrev pub decreases-loop-i : goal.decreases-loop-i

@@ -46,11 +46,11 @@ loop-i-preserved c =
     let h = c.loop-i-test.true in
     let own = c.row_is.ensures in
     elim c.if-row_is.branch [
-      then-row_is+then-is_given w ↦
-        rw (w.chosen-is, w.len-is) (chosen_more _ _ x c.loop-i.invariant h _ _ own w.is_given.ensures (both w.if-row_is.true w.if-is_given.true))
-    | then-row_is+else-is_given w ↦
-        rw (w.chosen-is, w.len-is) (chosen-not _ _ x c.loop-i.invariant h _ _ own w.is_given.ensures (rw (w.if-row_is.true, w.if-is_given.false)))
-    | else-row_is w ↦ rw (w.chosen-is, w.len-is) (chosen-not _ _ x c.loop-i.invariant h _ _ own refl (rw w.if-row_is.false))
+      | then-row_is+then-is_given w ↦
+          rw (w.chosen-is, w.len-is) (chosen_more _ _ x c.loop-i.invariant h _ _ own w.is_given.ensures (both w.if-row_is.true w.if-is_given.true))
+      | then-row_is+else-is_given w ↦
+          rw (w.chosen-is, w.len-is) (chosen-not _ _ x c.loop-i.invariant h _ _ own w.is_given.ensures (rw (w.if-row_is.true, w.if-is_given.false)))
+      | else-row_is w ↦ rw (w.chosen-is, w.len-is) (chosen-not _ _ x c.loop-i.invariant h _ _ own refl (rw w.if-row_is.false))
     ]
 
 pub returns : goal.returns

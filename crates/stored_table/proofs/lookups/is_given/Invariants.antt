@@ -8,7 +8,7 @@ use Rattle.tlv.specs.Rows.{row, rows}
 use Rattle.stored_table.proofs.lookups.is_given.Given as goal
 
 abbrev pub invariant-loop-j : goal.invariant-loop-j
-invariant-loop-j l = 
+invariant-loop-j l =
     let hs = rows 0 l.handles l.s in
     (empty hs || among (row l.place l.table) hs) ≡ among (row l.place l.table) (drop l.j hs)
 

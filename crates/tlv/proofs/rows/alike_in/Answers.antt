@@ -8,12 +8,12 @@ pub loop-i-preserved : goal.loop-i-preserved
 loop-i-preserved c =
     let a = c.args in
     elim c.if-marks-i.branch [
-      then-marks-i w ↦
-        let e = alike_at a.x a.marks.now _ c.loop-i-test.true (eq-eqb _ _ w.if-marks-i.true) in
-        (omega (arith, c.loop-i.invariant, w.k-is), omega (arith, e, c.loop-i.invariant, w.k-is))
-    | else-marks-i w ↦
-        let e = alike_at a.x a.marks.now _ c.loop-i-test.true (ne_eqb _ _ w.if-marks-i.false) in
-        (omega (arith, c.loop-i.invariant, w.k-is), omega (arith, e, c.loop-i.invariant, w.k-is))
+      | then-marks-i w ↦
+          let e = alike_at a.x a.marks.now _ c.loop-i-test.true (eq-eqb _ _ w.if-marks-i.true) in
+          (omega (arith, c.loop-i.invariant, w.k-is), omega (arith, e, c.loop-i.invariant, w.k-is))
+      | else-marks-i w ↦
+          let e = alike_at a.x a.marks.now _ c.loop-i-test.true (ne_eqb _ _ w.if-marks-i.false) in
+          (omega (arith, c.loop-i.invariant, w.k-is), omega (arith, e, c.loop-i.invariant, w.k-is))
     ]
 
 pub returns : goal.returns

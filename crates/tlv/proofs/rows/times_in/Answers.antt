@@ -16,12 +16,12 @@ loop-i-preserved c =
     let a = c.args in
     let at = times-at a.off a.places.now a.s.now _ c.loop-i-test.true a.v.now c.row_is.ensures in
     elim c.if-row_is.branch [
-      then-row_is w ↦
-        let e = rw w.if-row_is.true at at in
-        (omega (arith, c.loop-i.invariant, w.k-is), omega (arith, e, c.loop-i.invariant, w.k-is))
-    | else-row_is w ↦
-        let e = rw w.if-row_is.false at at in
-        (omega (arith, c.loop-i.invariant, w.k-is), omega (arith, e, c.loop-i.invariant, w.k-is))
+      | then-row_is w ↦
+          let e = rw w.if-row_is.true at at in
+          (omega (arith, c.loop-i.invariant, w.k-is), omega (arith, e, c.loop-i.invariant, w.k-is))
+      | else-row_is w ↦
+          let e = rw w.if-row_is.false at at in
+          (omega (arith, c.loop-i.invariant, w.k-is), omega (arith, e, c.loop-i.invariant, w.k-is))
     ]
 
 pub returns : goal.returns
