@@ -9,7 +9,7 @@ use lib.ListN.{length}
 use lib.Dec.{eqb}
 use borrow.Author.Tests.{lt-ltb, le-ltb, eq-eqb, ne_eqb, eqb-true}
 use Rattle.model.specs.Lists.{empty}
-use Rattle.model.specs.Tlv.{le, fits, signature, certificate, full, surrogate}
+use Rattle.model.specs.Tlv.{le, fits, signature, certificate, full, surrogate, krd_tag}
 use Rattle.model.specs.Layouts.{end, reads}
 use Rattle.model.specs.Commands.{judge, refused, gave, key_registration_data, signed_data, least_output}
 use Rattle.model.specs.Complete.{Completion, drafts_of, is_draft, completion_ok, completed, complete}
@@ -21,6 +21,9 @@ use Rattle.model.proofs.Refusals.{completes}
 use Rattle.tlv.specs.Writing.{Wrote}
 use Rattle.tlv.proofs.HeadLaws.{empty-size}
 use Rattle.layouts.proofs.SizeLaws.{reads-most}
+use Rattle.layouts.specs.Places.{after_group}
+use Rattle.layouts.specs.Groups.{krd_fields, after_signed}
+use Rattle.layouts.proofs.PlaceLaws.{from_front, reads_front, then-group, then_signed, then_end}
 use Rattle.fields.specs.Refusals.{ended, ends}
 use Rattle.fields.proofs.RefusalLaws.{ends-wrote}
 use Rattle.fields.specs.declared.refusals.Written.TheVariants as written
@@ -41,6 +44,13 @@ module _ (k : ℕ) (d : List ℕ) where
   pub other_draft : (k ≡ 0 → ⊥) → (k ≡ 1 → ⊥) → false ≡ is_draft k d
   unfolding is_draft
   other_draft e f = rw (ne_eqb k 0 e, ne_eqb k 1 f)
+
+  -- a draft is the group of its kind that ends with the stretch; a sign draft is one with content or without
+  pub registration_by : {to : ℕ} → k ≡ 0 → to ≡ after_group krd_tag krd_fields d 0 → eqb to (length d) ≡ is_draft k d
+  registration_by e h = registration_draft e (from_front (then-group h then_end))
+
+  pub sign_by : {to : ℕ} → k ≡ 1 → to ≡ after_signed d 0 → eqb to (length d) ≡ is_draft k d
+  sign_by e h = then_signed _ h then_end ∙ sign-draft e (sym (reads_front _ _)) (sym (reads_front _ _))
 
 signed-most : (b : Bool) → most (signed_data b end) ≤ 628
 signed-most true = omega arith

@@ -1,4 +1,6 @@
 // Completion: a draft and its signature become a response.
+#![tactic(auto)]
+
 mod writers;
 
 ghost use Rattle.std.specs.Prelude.{◌≡◌, [], length};
@@ -17,6 +19,7 @@ const REGISTRATION: u32 = 0;
 const SIGN: u32 = 1;
 
 // Whether a command can write this draft for this kind.
+#[tactic(auto, using(crate::proofs::CompletionLaws::registration_by, crate::proofs::CompletionLaws::sign_by, crate::proofs::CompletionLaws::other_draft))]
 fn is_draft(kind: u32, draft: &[u8]) -> bool
     ensures { result ≡ is_draft kind draft.now }
 {
