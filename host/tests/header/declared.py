@@ -44,7 +44,7 @@ def split(parameters):
 
 
 def exported(source, numbers):
-    for match in re.finditer(r'#\[no_mangle\]\s*pub extern "C" fn (\w+)\((.*?)\)(?:\s*->\s*(\w+))?', source, re.S):
+    for match in re.finditer(r'#\[unsafe\(no_mangle\)\]\s*pub extern "C" fn (\w+)\((.*?)\)(?:\s*->\s*(\w+))?', source, re.S):
         gives = NUMBERS[match[3]] if match[3] else "void"
         yield match[1], (gives, [c for p in split(match[2]) for c in in_c(*p.split(": ", 1), numbers)])
 
@@ -91,7 +91,7 @@ def main(header, crates):
     known = {name: number for names in numbers.values() for name, number in names.items()}
     functions = {}
     for path, text in source.items():
-        if path.startswith("token/"):
+        if path.startswith("token_c/"):
             functions.update(exported(text, known))
     refusals = numbers.get("fields/src/refusals.rt", {})
     bounds, named = {}, limits(header)
