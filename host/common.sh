@@ -89,7 +89,8 @@ follow_rt() {
     [ "$last" != "$rt_failed" ]
 }
 
-# The proved token. rt keeps what it has proved of crates that have not changed.
+# The proved token, for every x86-64 processor, which is not rt's default. rt keeps what it has proved of crates that have not changed, and proves
+# only what lies below token_c.
 build_token() {
     if is_current; then
         return
@@ -99,7 +100,7 @@ build_token() {
     first_time=
     [ -f "$made" ] || first_time='; nothing of it is built here yet, and all of it takes some minutes'
     printf 'building target/staticlib/libtoken.a%s\n' "$first_time" >&2
-    { (cd "$repository/crates/token_c" && rt lib) 2>&1 || echo "$rt_failed"; } | follow_rt || die "that failed; see $out/rt.log"
+    { (cd "$repository/crates/token_c" && rt lib --cpu=x86-64) 2>&1 || echo "$rt_failed"; } | follow_rt || die "that failed; see $out/rt.log"
     mkdir -p "${library%/*}"
     cp "$made" "$library.new"
     mv "$library.new" "$library"
