@@ -36,8 +36,10 @@ need() {
     command -v "$wanted" >/dev/null || install_packages "$@"
 }
 
+# Whether no file that a proof reads is newer than the archive. (rt makes and removes crates/NAME/out, so that the time of crates/NAME says nothing.)
 is_current() {
-    [ -f "$library" ] && [ -z "$(find "$repository/crates" "$repository/crates.txt" -newer "$library" -print | head -n 1)" ]
+    [ -f "$library" ] && [ -z "$(find "$repository/crates.txt" "$repository"/crates/*/src "$repository"/crates/*/specs "$repository"/crates/*/proofs \
+        -newer "$library" -print | head -n 1)" ]
 }
 
 # progress TEXT: says on stderr what goes on; in a terminal in one line, which each text writes over.
@@ -54,58 +56,52 @@ end_progress() {
     [ ! -t 2 ] || printf '\r%-72s\r' '' >&2
 }
 
-# The token's crate and those that it rests on, in the order in which rt proves them: by the number of levels that a crate rests on.
-token_crates() {
+# The crate of the archive and those that it rests on, in the order in which rt proves them: each behind those that it names in crates.txt.
+archive_crates() {
     awk -F: '
         function visit(name,    needs, count, i) {
-            if (name in level || !(name in deps)) return
-            level[name] = 0
+            if (!(name in deps) || name in seen) return
+            seen[name] = 1
             count = split(deps[name], needs, " ")
-            for (i = 1; i <= count; i++) {
-                visit(needs[i])
-                if (needs[i] in level && level[name] <= level[needs[i]]) level[name] = level[needs[i]] + 1
-            }
-            print level[name], name
+            for (i = 1; i <= count; i++) visit(needs[i])
+            print name
         }
-        !/^#/ { deps[$1] = $2 }
-        END { visit("token") }' "$repository/crates.txt" | sort -s -n -k 1,1 | cut -d ' ' -f 2
+        !/^#/ { split($1, words, " "); deps[words[1]] = $2 }
+        END { visit("token_c") }' "$repository/crates.txt"
 }
 
-# Reads what rt says, keeps it in the log and shows how far it is: in a terminal which crate is being proved, else each that has been, but for
-# those that rt had proved before. It fails where rt did, which the last line tells, for a pipe hands on no status.
+# Reads what rt says, keeps it in the log and shows which crate is being proved, in a terminal in one line. Those that rt had built before it does not
+# name. It fails where rt did, which the last line tells, for a pipe hands on no status.
 rt_failed='rt failed'
 follow_rt() {
-    waiting="$(token_crates | tr '\n' ' ')"
-    all=$(printf '%s' "$waiting" | wc -w)
-    proved=0 last=
-    [ ! -t 2 ] || progress "proving 1 of $all: ${waiting%% *}"
+    crates=$(archive_crates)
+    all=$(printf '%s\n' "$crates" | wc -l)
+    last=
     while IFS= read -r line; do
         printf '%s\n' "$line" >&3
         last=$line
-        case $line in 'rt: '*' proved ('*) ;; *) continue ;; esac
-        name=${line#rt: }
-        name=${name%% *}
-        case " $waiting" in *" $name "*) ;; *) continue ;; esac
-        waiting=$(printf ' %s' "$waiting" | sed "s/ $name / /; s/^ //")
-        proved=$((proved + 1))
-        if [ -t 2 ]; then
-            progress "proving $((proved + 1)) of $all: ${waiting%% *}"
-        elif [ "${line#*'(unchanged'}" = "$line" ]; then
-            progress "proved $proved of $all: $name ${line#* proved }"
-        fi
+        case $line in 'rt: chose --jobs '*' for '*) ;; *) continue ;; esac
+        name=${line##* }
+        number=$(printf '%s\n' "$crates" | grep -nx "$name" | cut -d : -f 1)
+        [ -z "$number" ] || progress "proving $number of $all: $name"
     done 3>"$out/rt.log"
     end_progress
     [ "$last" != "$rt_failed" ]
 }
 
-# The proved token. rt keeps what it has proved of crates that have not changed.
+# The proved token, for every x86-64 processor, which is not rt's default. rt keeps what it has proved of crates that have not changed, and proves
+# only what lies below token_c.
 build_token() {
     if is_current; then
         return
     fi
     command -v rt >/dev/null || die "rt, of the Rattle kit, is not on the path"
+    made=$repository/crates/token_c/out/libtoken_c.a
     first_time=
-    [ -d "$repository/target/rlib" ] || first_time='; nothing is proved here yet, and all of it takes three to five minutes'
+    [ -f "$made" ] || first_time='; nothing of it is built here yet, and all of it takes some minutes'
     printf 'building target/staticlib/libtoken.a%s\n' "$first_time" >&2
-    { (cd "$repository" && rt staticlib token) 2>&1 || echo "$rt_failed"; } | follow_rt || die "that failed; see $out/rt.log"
+    { (cd "$repository/crates/token_c" && rt lib --cpu=x86-64) 2>&1 || echo "$rt_failed"; } | follow_rt || die "that failed; see $out/rt.log"
+    mkdir -p "${library%/*}"
+    cp "$made" "$library.new"
+    mv "$library.new" "$library"
 }

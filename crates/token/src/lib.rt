@@ -1,4 +1,4 @@
-// The exported entries: numbers and byte stretches only.
+// The entries: numbers and byte stretches only. crates/token_c exports them for C.
 pub mod hashes;
 pub mod responses;
 mod told;
@@ -27,8 +27,7 @@ fn draft_number(draft: bool) -> u32
 
 // Runs a call on a table in its stored form. Gives the refusal number, or 0; then response_len bytes of the response output are a response
 // (answer 0) or a draft (1), and table_len bytes of the table output are the stored form of the table left.
-#[unsafe(no_mangle)]
-pub extern "C" fn uaf_command(
+pub fn uaf_command(
     command: &[u8],
     aaid: &[u8],
     version: u32,

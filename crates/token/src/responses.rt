@@ -12,8 +12,7 @@ use response_reader::readings::{MOST_FIELDS, read_fields};
 use response_reader::shapes::{Shape, shape_of};
 
 // Completes a draft: 0 or the number of a refusal, and after 0 the response and its length.
-#[unsafe(no_mangle)]
-pub extern "C" fn uaf_complete(
+pub fn uaf_complete(
     kind: u32,
     draft: &[u8],
     attestation: u32,
@@ -41,8 +40,7 @@ pub extern "C" fn uaf_complete(
 }
 
 // The reader's first call: 0 or the number of a refusal, and after 0 the place and the length of the signed structure.
-#[unsafe(no_mangle)]
-pub extern "C" fn uaf_signed_part(response: &[u8], place: &mut usize, part_len: &mut usize) -> u32
+pub fn uaf_signed_part(response: &[u8], place: &mut usize, part_len: &mut usize) -> u32
     ensures { points result place.new part_len.new
         ≡ pointed (read_response response.now) (points 0 place.old part_len.old) }
 {
@@ -59,8 +57,7 @@ pub extern "C" fn uaf_signed_part(response: &[u8], place: &mut usize, part_len: 
 
 // The reader's second call: 0 or the number of a refusal, and after 0 the response tag, the status, the number of fields and, in order, the
 // tag, the value's place and the value's length of each. Entries past their number are 0.
-#[unsafe(no_mangle)]
-pub extern "C" fn uaf_read_fields(
+pub fn uaf_read_fields(
     response: &[u8],
     tag: &mut usize,
     status: &mut usize,

@@ -11,8 +11,7 @@ use authenticator::withdraw::withdraw;
 
 // Takes back the newest record of a mixed token, if it has this KeyID and has not signed. Gives the refusal number, or 0; then table_len bytes of the
 // table output are the stored form of the table left.
-#[unsafe(no_mangle)]
-pub extern "C" fn uaf_withdraw(
+pub fn uaf_withdraw(
     mixed: &[u8],
     key_id: &[u8],
     table: &[u8],

@@ -9,8 +9,7 @@ use command_writer::writers::{
 };
 
 // Writes GetInfo.
-#[unsafe(no_mangle)]
-pub extern "C" fn uaf_write_get_info(command: &mut [u8], command_len: &mut usize) -> u32
+pub fn uaf_write_get_info(command: &mut [u8], command_len: &mut usize) -> u32
     ensures { wrote result command_len.new command.new
         ≡ returned_bytes (write_command to_get_info (length command.old))
         (wrote 0 command_len.old command.old) }
@@ -20,8 +19,7 @@ pub extern "C" fn uaf_write_get_info(command: &mut [u8], command_len: &mut usize
 }
 
 // Writes a Register.
-#[unsafe(no_mangle)]
-pub extern "C" fn uaf_write_register(
+pub fn uaf_write_register(
     app_id_given: u32,
     app_id: &[u8],
     challenge: &[u8],
@@ -56,8 +54,7 @@ pub extern "C" fn uaf_write_register(
 }
 
 // Writes a Sign.
-#[unsafe(no_mangle)]
-pub extern "C" fn uaf_write_sign(
+pub fn uaf_write_sign(
     app_id_given: u32,
     app_id: &[u8],
     challenge: &[u8],
@@ -96,8 +93,7 @@ pub extern "C" fn uaf_write_sign(
 }
 
 // Writes a Deregister.
-#[unsafe(no_mangle)]
-pub extern "C" fn uaf_write_deregister(
+pub fn uaf_write_deregister(
     app_id_given: u32,
     app_id: &[u8],
     key_id: &[u8],
@@ -116,8 +112,7 @@ pub extern "C" fn uaf_write_deregister(
 }
 
 // Writes Open settings.
-#[unsafe(no_mangle)]
-pub extern "C" fn uaf_write_open_settings(command: &mut [u8], command_len: &mut usize) -> u32
+pub fn uaf_write_open_settings(command: &mut [u8], command_len: &mut usize) -> u32
     ensures { wrote result command_len.new command.new
         ≡ returned_bytes (write_command to_open_settings (length command.old))
         (wrote 0 command_len.old command.old) }

@@ -2,7 +2,8 @@
 
 Each exported function of the Rattle source must be declared in the header, and no other, with the parameters that its own stand for, in their
 order and with their names: a slice of bytes is a pointer and a size, one of lengths a pointer and a count, a number lent to be written a pointer,
-an array lent to be written one of as many elements; a function that gives nothing is void.
+an array lent to be written one of as many elements; a function that gives nothing is void. What is exported (token_c) must have the parameters and
+the clauses of the entry of that name (token), word for word, and each entry must be exported.
 The header's lists of tags and of statuses must have the names and numbers of the source's, and no others; its refusals and those of its limits that
 the source names, the same numbers."""
 
@@ -39,12 +40,19 @@ def in_c(name, kind, numbers):
     return [f"{NUMBERS[kind]} {name}"]
 
 
+def stated(source):
+    """The public functions that promise something: parameters, result and clauses, whatever the layout."""
+    for match in re.finditer(r'^pub (?:extern "C" )?fn (\w+)(\(.*?)^\{', source, re.M | re.S):
+        if "ensures" in match[2]:
+            yield match[1], " ".join(re.findall(r"[\w.]+|[^\w\s]", match[2])).replace(", )", " )")
+
+
 def split(parameters):
     return [" ".join(p.split()) for p in parameters.split(",") if p.strip()]
 
 
 def exported(source, numbers):
-    for match in re.finditer(r'#\[no_mangle\]\s*pub extern "C" fn (\w+)\((.*?)\)(?:\s*->\s*(\w+))?', source, re.S):
+    for match in re.finditer(r'#\[unsafe\(no_mangle\)\]\s*pub extern "C" fn (\w+)\((.*?)\)(?:\s*->\s*(\w+))?', source, re.S):
         gives = NUMBERS[match[3]] if match[3] else "void"
         yield match[1], (gives, [c for p in split(match[2]) for c in in_c(*p.split(": ", 1), numbers)])
 
@@ -75,12 +83,12 @@ def renamed(numbers, names):
     return {name: numbers.get(old) for old, name in names.items()}
 
 
-def compare(what, here, there):
-    """Says in what the header differs from the source; how much of it there is, and how much differs."""
+def compare(what, here, there, sides=("header", "source")):
+    """Says in what the header differs from the source, or another side from its own; how much of it there is, and how much differs."""
     wrong = [name for name in sorted(here.keys() | there.keys()) if here.get(name) != there.get(name)]
     for name in wrong:
-        print(f"{name}\n  header: {here.get(name)}\n  source: {there.get(name)}")
-    print(f"header: {len(here)} {what}, {len(wrong)} other than the source's")
+        print(f"{name}\n  {sides[0]}: {here.get(name)}\n  {sides[1]}: {there.get(name)}")
+    print(f"{sides[0]}: {len(here)} {what}, {len(wrong)} other than the {sides[1]}'s")
     return 0 if there and not wrong else 1
 
 
@@ -89,16 +97,20 @@ def main(header, crates):
     source = {path.relative_to(crates).as_posix(): path.read_text(encoding="utf-8") for path in pathlib.Path(crates).glob("*/src/*.rt")}
     numbers = {path: constants(text) for path, text in source.items()}
     known = {name: number for names in numbers.values() for name, number in names.items()}
-    functions = {}
+    functions, exports, entries = {}, {}, {}
     for path, text in source.items():
-        if path.startswith("token/"):
+        if path.startswith("token_c/"):
             functions.update(exported(text, known))
+            exports.update(stated(text))
+        elif path.startswith("token/") and path != "token/src/told.rt":
+            entries.update(stated(text))
     refusals = numbers.get("fields/src/refusals.rt", {})
     bounds, named = {}, limits(header)
     for path, names in LIMITS.items():
         bounds.update(renamed(numbers.get(path, {}), names))
     return max(
         compare("declarations", dict(declared(header, named)), functions),
+        compare("promises", exports, entries, ("token_c", "token")),
         compare("tags", listed(header, "UAF_TAGS"), numbers.get("fields/src/tags.rt", {})),
         compare("statuses", listed(header, "UAF_STATUSES"), numbers.get("replies/src/status.rt", {})),
         compare("refusals", listed(header, "UAF_REFUSALS"), {REFUSALS.get(name, name): n for name, n in refusals.items()}),

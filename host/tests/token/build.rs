@@ -1,4 +1,4 @@
-//! Links the token's archive, which `rt staticlib token` builds.
+//! Links the token's archive, which `host/build` makes.
 
 use std::env;
 use std::path::{Path, PathBuf};
@@ -12,7 +12,7 @@ fn main() {
     let archive = directory.join("libtoken.a");
     assert!(
         archive.is_file(),
-        "no {}: run `rt staticlib token` in the repository's root, or set {}",
+        "no {}: run `host/build`, or set {}",
         archive.display(),
         DIRECTORY
     );

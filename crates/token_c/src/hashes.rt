@@ -1,0 +1,11 @@
+ghost use Rattle.std.specs.Prelude.{◌≡◌, ◌++◌};
+ghost use Rattle.model.specs.Sha256.{sha256};
+
+// The hash of a first stretch followed by a second, either perhaps empty: of access token and AppID, for the firmware that needs a mixed token. It has
+// no refusal.
+#[unsafe(no_mangle)]
+pub extern "C" fn uaf_hash(first: &[u8], second: &[u8], hash: &mut [u8; 32])
+    ensures { hash.new ≡ sha256 (first.now ++ second.now) }
+{
+    token::hashes::uaf_hash(first, second, hash);
+}
