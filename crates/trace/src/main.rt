@@ -3,6 +3,8 @@
 // the table left; '&' and '@' do the same by value; '-' withdraws, and '~' does so by value; '=' completes a draft; '<' reads a response, and '^' changes a
 // byte of it; '+' writes a command; '%' hashes. Other lines are comments. After a command or a withdrawal that is not refused the table left is the table
 // of the next, whichever its form; a completed response is the next one read, and a written command the next one run.
+#![tactic(auto)]
+
 ghost use Rattle.std.specs.Prelude.{◌≤◌, length, IfOk};
 
 use script::slots::{MOST, READ, SIZE, SLOTS, slot_of, store};
@@ -83,10 +85,10 @@ fn take(rt: &impl Print, byte: u8, line: &mut [u8], len: usize, mem: &mut [u8]) 
     Ok(len + 1)
 }
 
-// Reads the script from standard input and does what each line says, the last also without its newline.
+// Reads the script from its input, standard input in `main`, and does what each line says, the last also without its newline.
 fn obey_all(
-    input: &mut impl io::Read,
     rt: &impl Print,
+    input: &mut impl io::Read,
     line: &mut [u8],
     mem: &mut [u8],
 ) -> io::Result<()> {
@@ -107,5 +109,5 @@ fn obey_all(
 fn main(rt: HostRuntime) -> io::Result<()> {
     let mut line = [0u8; MOST_LINE];
     let mut mem = [0u8; SLOTS * SIZE];
-    obey_all(&mut rt.reader(), &rt, &mut line, &mut mem)
+    obey_all(&rt, &mut rt.reader(), &mut line, &mut mem)
 }

@@ -1,5 +1,7 @@
 // Calls from the arguments in the slots, and the line that says what each gave: of `uaf_command` here, on a table by value in `values`, of `uaf_withdraw`
 // and of a withdrawal by value in `withdrawals`, of `uaf_hash` in `hashes`.
+#![tactic(auto)]
+
 pub mod hashes;
 mod values;
 pub mod withdrawals;

@@ -1,4 +1,6 @@
 // Completions, and both calls of the reader: one from the arguments in the slots, and the line that says what it gave.
+#![tactic(auto)]
+
 use response_reader::readings::MOST_FIELDS;
 use response_reader::signed::signed_part;
 use script::slots::{

@@ -1,4 +1,6 @@
 // The writers of commands: one from the arguments in the slots, and the line that says what it gave.
+#![tactic(auto)]
+
 ghost use Rattle.std.specs.Prelude.{◌≤◌};
 
 use script::slots::{

@@ -1,5 +1,7 @@
 // The digests of the messages that are published with FIPS 180-4, in hexadecimal: of each one as a whole, then in two halves, which must be the same. The
 // file stdout has the published ones.
+#![tactic(auto)]
+
 use sha256::message::hash;
 use std::io;
 
