@@ -2,6 +2,7 @@
 ghost use Rattle.std.specs.Prelude.{◌≡◌, ◌≤◌, ◌<◌};
 ghost use Rattle.script.specs.Adler.{adler_from};
 
+use std::io;
 use tlv::numbers::wide;
 
 // The value of a hexadecimal digit with capital letters; of any other byte 0.
@@ -34,59 +35,65 @@ fn min(a: usize, b: usize) -> usize
 }
 
 // Writes bytes in hexadecimal.
-fn write_hex(s: &[u8]) {
+fn write_hex(rt: &impl Print, s: &[u8]) -> io::Result<()> {
     let mut i = 0;
     while i < s.len() {
-        write_byte(s[i]);
+        write_byte(rt, s[i])?;
         i += 1;
     }
+    Ok(())
 }
 
 // Writes a byte as two digits.
-fn write_byte(x: u8) {
+fn write_byte(rt: &impl Print, x: u8) -> io::Result<()> {
     let letters = b"0123456789ABCDEF";
     let high = letters[wide(x / 16)];
     let low = letters[wide(x % 16)];
-    io::write_all(1, &[high, low]);
+    rt.write_all(&[high, low])
 }
 
 // Writes a number in decimal.
-fn write_number(n: usize) {
-    io::print_decimal(1, n as u64);
+fn write_number(rt: &impl Print, n: usize) -> io::Result<()> {
+    rt.print(n)
 }
 
 // A space and a number.
-pub fn write_next(n: usize) {
-    io::write_all(1, b" ");
-    write_number(n);
+pub fn write_next(rt: &impl Print, n: usize) -> io::Result<()> {
+    rt.write_all(b" ")?;
+    write_number(rt, n)
 }
 
 // What was written from the front of an output, or only a sum of it, and a sum of what is beyond.
-pub fn write_written(s: &[u8], n: usize, whole: bool) {
+pub fn write_written(rt: &impl Print, s: &[u8], n: usize, whole: bool) -> io::Result<()> {
     if s.len() < n {
-        io::write_all(1, b" a length too great");
-        return;
+        return rt.write_all(b" a length too great");
     }
-    write_next(n);
-    write_next(adler(&s[0..n]));
-    write_next(adler(&s[n..]));
+    write_next(rt, n)?;
+    write_next(rt, adler(&s[0..n]))?;
+    write_next(rt, adler(&s[n..]))?;
     if whole {
-        io::write_all(1, b" ");
-        write_hex(&s[0..n]);
+        rt.write_all(b" ")?;
+        write_hex(rt, &s[0..n])?;
     }
+    Ok(())
 }
 
 // What a call with one output gave: after a refusal its number, the length and a sum of the output; else this word, and what was written.
-pub fn write_given(word: &[u8], code: u32, len: usize, output: &[u8]) {
+pub fn write_given(
+    rt: &impl Print,
+    word: &[u8],
+    code: u32,
+    len: usize,
+    output: &[u8],
+) -> io::Result<()> {
     if code != 0 {
-        io::write_all(1, b"refusal");
-        write_next(code as usize);
-        write_next(len);
-        write_next(adler(output));
-        return;
+        rt.write_all(b"refusal")?;
+        write_next(rt, code as usize)?;
+        write_next(rt, len)?;
+        return write_next(rt, adler(output));
     }
-    io::write_all(1, word);
-    write_written(output, len, true);
+    rt.write_all(word)?;
+    write_written(rt, output, len, true)
 }
 
 // Adler-32, which tells stretches apart in a short line.

@@ -3,10 +3,13 @@
 // the table left; '&' and '@' do the same by value; '-' withdraws, and '~' does so by value; '=' completes a draft; '<' reads a response, and '^' changes a
 // byte of it; '+' writes a command; '%' hashes. Other lines are comments. After a command or a withdrawal that is not refused the table left is the table
 // of the next, whichever its form; a completed response is the next one read, and a written command the next one run.
-ghost use Rattle.std.specs.Prelude.{◌≤◌, length};
+#![tactic(auto)]
+
+ghost use Rattle.std.specs.Prelude.{◌≤◌, length, IfOk};
 
 use script::slots::{MOST, READ, SIZE, SLOTS, slot_of, store};
 use script::text::read_hex;
+use std::io;
 use tlv::numbers::get16;
 use trace_commands::hashes::hash;
 use trace_commands::run;
@@ -33,25 +36,31 @@ fn change(text: &[u8], mem: &mut [u8]) {
 }
 
 // Does what one line says.
-fn obey(line: &[u8], mem: &mut [u8]) {
+fn obey(rt: &impl Print, line: &[u8], mem: &mut [u8]) -> io::Result<()> {
     if line.len() < 2 {
-        return;
+        return Ok(());
     }
     let letter = line[0];
     let rest = &line[2..];
     match letter {
-        b'!' => run(rest, false, false, mem),
-        b'?' => run(rest, false, true, mem),
-        b'&' => run(rest, true, false, mem),
-        b'@' => run(rest, true, true, mem),
-        b'-' => take_back(rest, false, mem),
-        b'~' => take_back(rest, true, mem),
-        b'=' => complete(rest, mem),
-        b'<' => read(rest, mem),
-        b'^' => change(rest, mem),
-        b'+' => write(rest, mem),
-        b'%' => hash(rest, mem),
-        _ => set(rest, slot_of(letter), mem),
+        b'!' => run(rt, rest, false, false, mem),
+        b'?' => run(rt, rest, false, true, mem),
+        b'&' => run(rt, rest, true, false, mem),
+        b'@' => run(rt, rest, true, true, mem),
+        b'-' => take_back(rt, rest, false, mem),
+        b'~' => take_back(rt, rest, true, mem),
+        b'=' => complete(rt, rest, mem),
+        b'<' => read(rt, rest, mem),
+        b'^' => {
+            change(rest, mem);
+            Ok(())
+        }
+        b'+' => write(rt, rest, mem),
+        b'%' => hash(rt, rest, mem),
+        _ => {
+            set(rest, slot_of(letter), mem);
+            Ok(())
+        }
     }
 }
 
@@ -61,39 +70,44 @@ const MOST_TEXT: usize = 1048576;
 const MOST_LINE: usize = 2 + 2 * MOST;
 
 // Takes one byte of the script: a newline ends the line, which is obeyed; another byte is put behind it, if there is room. The line's length then.
-fn take(byte: u8, line: &mut [u8], len: usize, mem: &mut [u8]) -> usize
+fn take(rt: &impl Print, byte: u8, line: &mut [u8], len: usize, mem: &mut [u8]) -> io::Result<usize>
     requires { len ≤ length line.old }
-    ensures { result ≤ length line.old }
+    ensures { IfOk result (λ n. n ≤ length line.old) }
 {
     if byte == b'\n' {
-        obey(&line[0..len], mem);
-        return 0;
+        obey(rt, &line[0..len], mem)?;
+        return Ok(0);
     }
     if len == line.len() {
-        return len;
+        return Ok(len);
     }
     line[len] = byte;
-    len + 1
+    Ok(len + 1)
 }
 
-// Reads the script from standard input and does what each line says, the last also without its newline.
-fn obey_all(line: &mut [u8], mem: &mut [u8]) {
+// Reads the script from its input, standard input in `main`, and does what each line says, the last also without its newline.
+fn obey_all(
+    rt: &impl Print,
+    input: &mut impl io::Read,
+    line: &mut [u8],
+    mem: &mut [u8],
+) -> io::Result<()> {
     let mut byte = [0u8; 1];
     let mut len = 0;
     let mut i = 0;
     while i < MOST_TEXT {
-        if io::read_full(0, &mut byte) == 0 {
+        if input.read(&mut byte)? == 0 {
             break;
         }
-        len = take(byte[0], line, len, mem);
+        len = take(rt, byte[0], line, len, mem)?;
         i += 1;
     }
-    obey(&line[0..len], mem);
+    obey(rt, &line[0..len], mem)
 }
 
 // Makes room for a line and for the arguments.
-fn main() {
+fn main(rt: HostRuntime) -> io::Result<()> {
     let mut line = [0u8; MOST_LINE];
     let mut mem = [0u8; SLOTS * SIZE];
-    obey_all(&mut line, &mut mem);
+    obey_all(&rt, &mut rt.reader(), &mut line, &mut mem)
 }

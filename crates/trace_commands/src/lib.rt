@@ -1,5 +1,7 @@
 // Calls from the arguments in the slots, and the line that says what each gave: of `uaf_command` here, on a table by value in `values`, of `uaf_withdraw`
 // and of a withdrawal by value in `withdrawals`, of `uaf_hash` in `hashes`.
+#![tactic(auto)]
+
 pub mod hashes;
 mod values;
 pub mod withdrawals;
@@ -12,6 +14,7 @@ use script::slots::{
     arg, number, store,
 };
 use script::text::{adler, write_next, write_written};
+use std::io;
 use token::uaf_command;
 
 // What a call gave: the refusal number, or 0, and the three numbers.
@@ -68,69 +71,93 @@ fn call(mem: &[u8], response: &mut [u8], table_out: &mut [u8]) -> Given {
 }
 
 // Says what a refused call left: the numbers, and a sum of each output.
-fn tell_refusal(g: Given, response: &[u8], table_out: &[u8]) {
-    io::write_all(1, b"refusal");
-    write_next(g.code as usize);
-    write_next(g.answer as usize);
-    write_next(g.response_len);
-    write_next(g.table_len);
-    write_next(adler(response));
-    write_next(adler(table_out));
+fn tell_refusal(rt: &impl Print, g: Given, response: &[u8], table_out: &[u8]) -> io::Result<()> {
+    rt.write_all(b"refusal")?;
+    write_next(rt, g.code as usize)?;
+    write_next(rt, g.answer as usize)?;
+    write_next(rt, g.response_len)?;
+    write_next(rt, g.table_len)?;
+    write_next(rt, adler(response))?;
+    write_next(rt, adler(table_out))
 }
 
 // Says what the response output holds, by the number that the call gave.
-fn write_kind(answer: u32) {
+fn write_kind(rt: &impl Print, answer: u32) -> io::Result<()> {
     match answer {
-        0 => io::write_all(1, b"response"),
-        1 => io::write_all(1, b"draft"),
-        _ => io::write_all(1, b"neither"),
-    };
+        0 => rt.write_all(b"response"),
+        1 => rt.write_all(b"draft"),
+        _ => rt.write_all(b"neither"),
+    }
 }
 
 // Says what a call that is not refused wrote.
-fn tell_answer(g: Given, response: &[u8], table_out: &[u8], dump: bool) {
-    write_kind(g.answer);
-    write_written(response, g.response_len, true);
-    io::write_all(1, b" table");
-    write_written(table_out, g.table_len, dump);
+fn tell_answer(
+    rt: &impl Print,
+    g: Given,
+    response: &[u8],
+    table_out: &[u8],
+    dump: bool,
+) -> io::Result<()> {
+    write_kind(rt, g.answer)?;
+    write_written(rt, response, g.response_len, true)?;
+    rt.write_all(b" table")?;
+    write_written(rt, table_out, g.table_len, dump)
 }
 
 // Runs a call on the stored table, says what it gave and keeps the table left.
-fn run_stored(dump: bool, mem: &mut [u8], response: &mut [u8], table_out: &mut [u8]) {
+fn run_stored(
+    rt: &impl Print,
+    dump: bool,
+    mem: &mut [u8],
+    response: &mut [u8],
+    table_out: &mut [u8],
+) -> io::Result<()> {
     let g = call(mem, response, table_out);
     if g.code != 0 {
-        tell_refusal(g, response, table_out);
-        return;
+        return tell_refusal(rt, g, response, table_out);
     }
-    tell_answer(g, response, table_out, dump);
+    tell_answer(rt, g, response, table_out, dump)?;
     store(table_out, g.table_len, TABLE, mem);
+    Ok(())
 }
 
 // Runs a call in one of the two forms. The outputs are the first bytes of two stretches.
-fn run_in(by_value: bool, dump: bool, mem: &mut [u8], response: &mut [u8], table_out: &mut [u8]) {
+fn run_in(
+    rt: &impl Print,
+    by_value: bool,
+    dump: bool,
+    mem: &mut [u8],
+    response: &mut [u8],
+    table_out: &mut [u8],
+) -> io::Result<()> {
     let n = number(mem, RESPONSE_LENGTH);
     let m = number(mem, TABLE_LENGTH);
     if response.len() < n {
-        return;
+        return Ok(());
     }
     if table_out.len() < m {
-        return;
+        return Ok(());
     }
     let response = &mut response[0..n];
     let table_out = &mut table_out[0..m];
     if by_value {
-        run_by_value(dump, mem, response, table_out);
-        return;
+        return run_by_value(rt, dump, mem, response, table_out);
     }
-    run_stored(dump, mem, response, table_out);
+    run_stored(rt, dump, mem, response, table_out)
 }
 
 // Runs a command with outputs of its own, on the stored table or on the table by value, writes its line and keeps the table that it left for the next.
-pub fn run(name: &[u8], by_value: bool, dump: bool, mem: &mut [u8]) {
-    io::write_all(1, name);
-    io::write_all(1, b": ");
+pub fn run(
+    rt: &impl Print,
+    name: &[u8],
+    by_value: bool,
+    dump: bool,
+    mem: &mut [u8],
+) -> io::Result<()> {
+    rt.write_all(name)?;
+    rt.write_all(b": ")?;
     let mut response = [FILL; MOST];
     let mut table_out = [FILL; MOST];
-    run_in(by_value, dump, mem, &mut response, &mut table_out);
-    io::write_all(1, b"\n");
+    run_in(rt, by_value, dump, mem, &mut response, &mut table_out)?;
+    rt.write_all(b"\n")
 }

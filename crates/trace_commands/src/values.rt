@@ -14,6 +14,7 @@ use script::slots::{
     AAID, COMMAND, KEY_ID, METADATA, MIXED, NONCE, PUBLIC_KEY, SPOILT, TABLE, arg, number,
 };
 use script::text::{adler, write_next, write_written};
+use std::io;
 use stored_table::records::MAX_RECORDS;
 
 // The first record's name says that it has n bytes.
@@ -105,51 +106,59 @@ fn call(mem: &[u8], t: Table, response: &mut [u8]) -> Ran {
 }
 
 // Says a word and the number of a refusal.
-pub fn tell(what: &[u8], refusal: u32) {
-    io::write_all(1, what);
-    write_next(refusal as usize);
+pub fn tell(rt: &impl Print, what: &[u8], refusal: u32) -> io::Result<()> {
+    rt.write_all(what)?;
+    write_next(rt, refusal as usize)
 }
 
 // Says what was refused, by which number, and a sum of the output.
-fn tell_refusal(what: &[u8], refusal: u32, out: &[u8]) {
-    tell(what, refusal);
-    write_next(adler(out));
+fn tell_refusal(rt: &impl Print, what: &[u8], refusal: u32, out: &[u8]) -> io::Result<()> {
+    tell(rt, what, refusal)?;
+    write_next(rt, adler(out))
 }
 
 // Says what the call gave.
-fn tell_answered(answered: Answered, response: &[u8]) {
+fn tell_answered(rt: &impl Print, answered: Answered, response: &[u8]) -> io::Result<()> {
     match answered {
-        Answered::Refused(n) => tell_refusal(b"refusal", n, response),
+        Answered::Refused(n) => tell_refusal(rt, b"refusal", n, response),
         Answered::Gave { draft, len } => {
-            write_kind(draft as u32);
-            write_written(response, len, true);
+            write_kind(rt, draft as u32)?;
+            write_written(rt, response, len, true)
         }
     }
 }
 
 // Says what storing the table gave.
-fn tell_stored(stored: Written, table_out: &[u8], dump: bool) {
+fn tell_stored(rt: &impl Print, stored: Written, table_out: &[u8], dump: bool) -> io::Result<()> {
     match stored {
-        Written::Refused(n) => tell_refusal(b" store", n, table_out),
+        Written::Refused(n) => tell_refusal(rt, b" store", n, table_out),
         Written::Wrote(n) => {
-            io::write_all(1, b" table");
-            write_written(table_out, n, dump);
+            rt.write_all(b" table")?;
+            write_written(rt, table_out, n, dump)
         }
     }
 }
 
 // Stores the table that came back from a call and says what that gave. The stored form is kept for the next call, if there is one and the call was not
 // refused.
-fn hand_back(t: Table, refused: bool, dump: bool, mem: &mut [u8], table_out: &mut [u8]) {
+fn hand_back(
+    rt: &impl Print,
+    t: Table,
+    refused: bool,
+    dump: bool,
+    mem: &mut [u8],
+    table_out: &mut [u8],
+) -> io::Result<()> {
     let stored = store(t, table_out);
-    tell_stored(stored, table_out, dump);
+    tell_stored(rt, stored, table_out, dump)?;
     if refused {
-        return;
+        return Ok(());
     }
     let Written::Wrote(n) = stored else {
-        return;
+        return Ok(());
     };
     slots::store(table_out, n, TABLE, mem);
+    Ok(())
 }
 
 // Whether a call was refused.
@@ -161,49 +170,64 @@ fn is_refused(answered: Answered) -> bool {
 }
 
 // Calls with a table, says what that gave and hands back the table left.
-fn run_on(t: Table, dump: bool, mem: &mut [u8], response: &mut [u8], table_out: &mut [u8]) {
+fn run_on(
+    rt: &impl Print,
+    t: Table,
+    dump: bool,
+    mem: &mut [u8],
+    response: &mut [u8],
+    table_out: &mut [u8],
+) -> io::Result<()> {
     let ran = call(mem, t, response);
     let answered = ran.answered;
-    tell_answered(answered, response);
-    hand_back(ran.table, is_refused(answered), dump, mem, table_out);
+    tell_answered(rt, answered, response)?;
+    hand_back(rt, ran.table, is_refused(answered), dump, mem, table_out)
 }
 
 // Loads the table in its slot, and calls if there is one.
-pub fn run_by_value(dump: bool, mem: &mut [u8], response: &mut [u8], table_out: &mut [u8]) {
+pub fn run_by_value(
+    rt: &impl Print,
+    dump: bool,
+    mem: &mut [u8],
+    response: &mut [u8],
+    table_out: &mut [u8],
+) -> io::Result<()> {
     let loaded = load(arg(mem, TABLE));
     if loaded.refusal != 0 {
-        tell(b"load", loaded.refusal);
-        return;
+        return tell(rt, b"load", loaded.refusal);
     }
-    io::write_all(1, b"by value, ");
+    rt.write_all(b"by value, ")?;
     let t = spoil(loaded.table, number(mem, SPOILT));
-    run_on(t, dump, mem, response, table_out);
+    run_on(rt, t, dump, mem, response, table_out)
 }
 
 // Says whether a withdrawal by value was refused.
-fn tell_withdrew(refusal: u32) {
+fn tell_withdrew(rt: &impl Print, refusal: u32) -> io::Result<()> {
     if refusal != 0 {
-        tell(b"refusal", refusal);
-        return;
+        return tell(rt, b"refusal", refusal);
     }
-    io::write_all(1, b"withdrawn");
+    rt.write_all(b"withdrawn")
 }
 
 // Withdraws from a table by value, says what that gave and hands back the table left.
-fn withdraw_from(t: Table, mem: &mut [u8], table_out: &mut [u8]) {
+fn withdraw_from(
+    rt: &impl Print,
+    t: Table,
+    mem: &mut [u8],
+    table_out: &mut [u8],
+) -> io::Result<()> {
     let done = withdraw::withdraw(arg(mem, MIXED), arg(mem, KEY_ID), t);
-    tell_withdrew(done.refusal);
-    hand_back(done.table, done.refusal != 0, true, mem, table_out);
+    tell_withdrew(rt, done.refusal)?;
+    hand_back(rt, done.table, done.refusal != 0, true, mem, table_out)
 }
 
 // Loads the table in its slot, and withdraws from it if there is one.
-pub fn withdraw_by_value(mem: &mut [u8], table_out: &mut [u8]) {
+pub fn withdraw_by_value(rt: &impl Print, mem: &mut [u8], table_out: &mut [u8]) -> io::Result<()> {
     let loaded = load(arg(mem, TABLE));
     if loaded.refusal != 0 {
-        tell(b"load", loaded.refusal);
-        return;
+        return tell(rt, b"load", loaded.refusal);
     }
-    io::write_all(1, b"by value, ");
+    rt.write_all(b"by value, ")?;
     let t = spoil(loaded.table, number(mem, SPOILT));
-    withdraw_from(t, mem, table_out);
+    withdraw_from(rt, t, mem, table_out)
 }

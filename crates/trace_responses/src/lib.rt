@@ -1,4 +1,6 @@
 // Completions, and both calls of the reader: one from the arguments in the slots, and the line that says what it gave.
+#![tactic(auto)]
+
 use response_reader::readings::MOST_FIELDS;
 use response_reader::signed::signed_part;
 use script::slots::{
@@ -6,13 +8,19 @@ use script::slots::{
     arg, number, store,
 };
 use script::text::{adler, write_given, write_next};
+use std::io;
 use token::responses::{uaf_complete, uaf_read_fields, uaf_signed_part};
 
 // Completes a draft, writes its line and keeps the response. The output is the first bytes of a stretch.
-fn complete_in(name: &[u8], mem: &mut [u8], response: &mut [u8]) {
+fn complete_in(
+    rt: &impl Print,
+    name: &[u8],
+    mem: &mut [u8],
+    response: &mut [u8],
+) -> io::Result<()> {
     let n = number(mem, RESPONSE_LENGTH);
     if response.len() < n {
-        return;
+        return Ok(());
     }
     let response = &mut response[0..n];
     let kind = number(mem, KIND) as u32;
@@ -27,20 +35,21 @@ fn complete_in(name: &[u8], mem: &mut [u8], response: &mut [u8]) {
         response,
         &mut len,
     );
-    io::write_all(1, name);
-    io::write_all(1, b": ");
-    write_given(b"completed", code, len, response);
-    io::write_all(1, b"\n");
+    rt.write_all(name)?;
+    rt.write_all(b": ")?;
+    write_given(rt, b"completed", code, len, response)?;
+    rt.write_all(b"\n")?;
     if code != 0 {
-        return;
+        return Ok(());
     }
     store(response, len, READ, mem);
+    Ok(())
 }
 
 // Completes a draft into an output of its own, writes its line and keeps the response to be read.
-pub fn complete(name: &[u8], mem: &mut [u8]) {
+pub fn complete(rt: &impl Print, name: &[u8], mem: &mut [u8]) -> io::Result<()> {
     let mut response = [FILL; MOST];
-    complete_in(name, mem, &mut response);
+    complete_in(rt, name, mem, &mut response)
 }
 
 // What the second call gave.
@@ -95,39 +104,39 @@ fn sum(column: [usize; MOST_FIELDS]) -> usize {
 }
 
 // After a refusal a sum of each column.
-fn tell_sums(l: Listed) {
+fn tell_sums(rt: &impl Print, l: Listed) -> io::Result<()> {
     let tags = l.tags;
     let places = l.places;
     let lengths = l.lengths;
-    write_next(sum(tags));
-    write_next(sum(places));
-    write_next(sum(lengths));
+    write_next(rt, sum(tags))?;
+    write_next(rt, sum(places))?;
+    write_next(rt, sum(lengths))
 }
 
 // Every entry, so that those past the count are seen to be 0.
-fn tell_fields(l: Listed) {
+fn tell_fields(rt: &impl Print, l: Listed) -> io::Result<()> {
     let mut i = 0;
     while i < MOST_FIELDS {
-        io::write_all(1, b";");
-        write_next(l.tags[i]);
-        write_next(l.places[i]);
-        write_next(l.lengths[i]);
+        rt.write_all(b";")?;
+        write_next(rt, l.tags[i])?;
+        write_next(rt, l.places[i])?;
+        write_next(rt, l.lengths[i])?;
         i += 1;
     }
+    Ok(())
 }
 
 // Says what the second call gave.
-fn tell_listed(l: Listed) {
-    io::write_all(1, b" list");
-    write_next(l.code as usize);
-    write_next(l.tag);
-    write_next(l.status);
-    write_next(l.count);
+fn tell_listed(rt: &impl Print, l: Listed) -> io::Result<()> {
+    rt.write_all(b" list")?;
+    write_next(rt, l.code as usize)?;
+    write_next(rt, l.tag)?;
+    write_next(rt, l.status)?;
+    write_next(rt, l.count)?;
     if l.code != 0 {
-        tell_sums(l);
-        return;
+        return tell_sums(rt, l);
     }
-    tell_fields(l);
+    tell_fields(rt, l)
 }
 
 // What the first call gave, by both of its forms: the place and the length, and the part itself.
@@ -159,23 +168,23 @@ fn point(s: &[u8]) -> Pointed {
 }
 
 // Says what the first call gave.
-fn tell_pointed(g: Pointed) {
-    io::write_all(1, b"signed");
-    write_next(g.code as usize);
-    write_next(g.place);
-    write_next(g.length);
-    io::write_all(1, b" part");
-    write_next(g.refusal as usize);
-    write_next(g.part_len);
-    write_next(g.part_sum);
+fn tell_pointed(rt: &impl Print, g: Pointed) -> io::Result<()> {
+    rt.write_all(b"signed")?;
+    write_next(rt, g.code as usize)?;
+    write_next(rt, g.place)?;
+    write_next(rt, g.length)?;
+    rt.write_all(b" part")?;
+    write_next(rt, g.refusal as usize)?;
+    write_next(rt, g.part_len)?;
+    write_next(rt, g.part_sum)
 }
 
 // Reads a response by both calls and writes one line.
-pub fn read(name: &[u8], mem: &[u8]) {
+pub fn read(rt: &impl Print, name: &[u8], mem: &[u8]) -> io::Result<()> {
     let s = arg(mem, READ);
-    io::write_all(1, name);
-    io::write_all(1, b": ");
-    tell_pointed(point(s));
-    tell_listed(list(s));
-    io::write_all(1, b"\n");
+    rt.write_all(name)?;
+    rt.write_all(b": ")?;
+    tell_pointed(rt, point(s))?;
+    tell_listed(rt, list(s))?;
+    rt.write_all(b"\n")
 }

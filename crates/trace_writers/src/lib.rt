@@ -1,4 +1,6 @@
 // The writers of commands: one from the arguments in the slots, and the line that says what it gave.
+#![tactic(auto)]
+
 ghost use Rattle.std.specs.Prelude.{◌≤◌};
 
 use script::slots::{
@@ -7,6 +9,7 @@ use script::slots::{
     VERIFY_TOKEN, VERIFY_TOKEN_GIVEN, arg, number, store,
 };
 use script::text::write_given;
+use std::io;
 use tlv::numbers::get32;
 use token::writers::{
     uaf_write_deregister, uaf_write_get_info, uaf_write_open_settings, uaf_write_register,
@@ -134,25 +137,26 @@ fn write_kind(mem: &[u8], command: &mut [u8]) -> Given {
 }
 
 // Writes a command into the first bytes of a stretch, says so and keeps it.
-fn write_in(name: &[u8], mem: &mut [u8], output: &mut [u8]) {
+fn write_in(rt: &impl Print, name: &[u8], mem: &mut [u8], output: &mut [u8]) -> io::Result<()> {
     let n = number(mem, RESPONSE_LENGTH);
     if output.len() < n {
-        return;
+        return Ok(());
     }
     let command = &mut output[0..n];
     let g = write_kind(mem, command);
-    io::write_all(1, name);
-    io::write_all(1, b": ");
-    write_given(b"written", g.code, g.len, command);
-    io::write_all(1, b"\n");
+    rt.write_all(name)?;
+    rt.write_all(b": ")?;
+    write_given(rt, b"written", g.code, g.len, command)?;
+    rt.write_all(b"\n")?;
     if g.code != 0 {
-        return;
+        return Ok(());
     }
     store(command, g.len, COMMAND, mem);
+    Ok(())
 }
 
 // Writes a command into an output of its own, writes its line and keeps the command to be run.
-pub fn write(name: &[u8], mem: &mut [u8]) {
+pub fn write(rt: &impl Print, name: &[u8], mem: &mut [u8]) -> io::Result<()> {
     let mut output = [FILL; MOST];
-    write_in(name, mem, &mut output);
+    write_in(rt, name, mem, &mut output)
 }

@@ -1,38 +1,44 @@
 // The digests of the messages that are published with FIPS 180-4, in hexadecimal: of each one as a whole, then in two halves, which must be the same. The
 // file stdout has the published ones.
-use libc::STDOUT_FILENO;
+#![tactic(auto)]
+
 use sha256::message::hash;
+use std::io;
 
 // Writes a digest and ends the line.
-fn write_line(digest: [u8; 32]) {
+fn write_line(rt: &impl Print, digest: [u8; 32]) -> io::Result<()> {
     let mut i: usize = 0;
     while i < 32 {
-        io::print_hex(STDOUT_FILENO, digest[i] as u64, 2);
+        print!(rt; "{:02x}", digest[i])?;
         i += 1;
     }
-    io::write_all(STDOUT_FILENO, b"\n");
+    rt.write_all(b"\n")
 }
 
 // Writes the digest of a message, and of its halves one after the other.
-fn show(message: &[u8]) {
+fn show(rt: &impl Print, message: &[u8]) -> io::Result<()> {
     let half = message.len() / 2;
-    write_line(hash(message, b""));
-    write_line(hash(&message[0..half], &message[half..]));
+    write_line(rt, hash(message, b""))?;
+    write_line(rt, hash(&message[0..half], &message[half..]))
 }
 
 // The message of a million times the letter a.
-fn show_million() {
+fn show_million(rt: &impl Print) -> io::Result<()> {
     let many = [b'a'; 1000000];
-    show(&many);
+    show(rt, &many)
 }
 
 // The messages of 24, 448, 896 and no bits, and the long one.
-fn main() {
-    show(b"abc");
-    show(b"abcdbcdecdefdefgefghfghighijhijkijkljklmklmnlmnomnopnopq");
+fn main(rt: HostRuntime) -> io::Result<()> {
+    show(&rt, b"abc")?;
     show(
+        &rt,
+        b"abcdbcdecdefdefgefghfghighijhijkijkljklmklmnlmnomnopnopq",
+    )?;
+    show(
+        &rt,
         b"abcdefghbcdefghicdefghijdefghijkefghijklfghijklmghijklmnhijklmnoijklmnopjklmnopqklmnopqrlmnopqrsmnopqrstnopqrstu",
-    );
-    show(b"");
-    show_million();
+    )?;
+    show(&rt, b"")?;
+    show_million(&rt)
 }
