@@ -4,7 +4,7 @@
 --
 -- How to read it. `List ℕ` is a stretch of bytes; `x ∷ xs` a list with x in front, `++` puts two together, `get_or xs i d` is the element at
 -- place i or else d, `take n` and `drop n` cut at n. `leb`, `ltb`, `eqb` test for ≤, < and =; `&&`, `||`, `not` join tests; `cond b x y` is x if
--- b holds, else y. `some x` is there, `none` is not, `Option·getD o d` is what is there or else d. `record` and `data` declare types. `abbrev` and
+-- b holds, else y. `some x` is there, `none` is not, `Option.get_or o d` is what is there or else d. `record` and `data` declare types. `abbrev` and
 -- `unfoldable` say only how far the checker looks into a definition, and `pub` that others may name it.
 pub mod Lists
 pub mod Utf8

@@ -9,7 +9,7 @@ use crate::kinds::Kind;
 use fields::{Field, fits};
 
 // The lent numbers: the profile's, the fingerprint's verdict and the display's result. Each has 32 bits, so that none is cut off before it is judged.
-// The lent stretches are parameters of their own, because a struct of references is proved by hand.
+// The lent stretches are parameters of their own.
 #[derive(Clone, Copy)]
 pub struct Numbers {
     pub version: u32,
