@@ -19,7 +19,7 @@ use Rattle.fields.specs.declared.refusals.Written.TheVariants as output
 use Rattle.params.specs.Lent as params
 use Rattle.key_table.specs.Views.{view_table, table_value}
 use Rattle.key_table.specs.Forms.{loading, storing}
-use Rattle.key_table.specs.declared.records.Table as by_value
+use Rattle.key_table.specs.declared.records.Table as tables
 use Rattle.by_value.specs.Runs as runs
 use Rattle.by_value.specs.declared.Answered.{Answered}
 use Rattle.by_value.specs.declared.Answered.TheVariants as answers
@@ -58,7 +58,7 @@ commanding s c n =
       after = returned (outcome (params.call c.command c.lent (length (zeros c.output)) (some (length (zeros n)))) (stored s)) lent;
     }
 
-abbrev running : by_value.Table → Call → Running
+abbrev running : tables.Table → Call → Running
 running u c =
     let o = outcome (params.call c.command c.lent (length (zeros c.output)) none) (value (view_table u)) in
     record {
@@ -69,7 +69,7 @@ running u c =
       ran = record { answered = saying (runs.size_of o); table = runs.table_left (on_gave (λ e. e.left) o) u };
     }
 
-runs_so : (u : by_value.Table) (c : Call) → Promised (by_value u) (run (running u c))
+runs_so : (u : tables.Table) (c : Call) → Promised (by_value u) (run (running u c))
 unfolding runs.ends
 runs_so u c = rw (said_back (runs.size_of (outcome (params.call c.command c.lent (length (zeros c.output)) none) (value (view_table u)))))
 
@@ -84,7 +84,7 @@ withdrawing_as s w n =
       after = returned_bytes (on_gave encode (withdraw (withdrawal w.mixed w.key_id (some (length (zeros n)))) (stored s))) lent;
     }
 
-abbrev taking_as : by_value.Table → Withdrawal → Taking
+abbrev taking_as : tables.Table → Withdrawal → Taking
 taking_as u w =
     record {
       mixed = w.mixed;
@@ -93,7 +93,7 @@ taking_as u w =
     }
 
 -- a call on a table by value, and on a stored one
-abbrev by_value_made : by_value.Table → Act → Made
+abbrev by_value_made : tables.Table → Act → Made
 by_value_made u (commands c) = run (running u c)
 by_value_made u (withdraws w) = taking (taking_as u w)
 
@@ -101,7 +101,7 @@ abbrev stored_made : List ℕ → Act → ℕ → Made
 stored_made s (commands c) n = command (commanding s c n)
 stored_made s (withdraws w) n = withdrawing (withdrawing_as s w n)
 
-by_value_promised : (u : by_value.Table) (a : Act) → Promised (by_value u) (by_value_made u a)
+by_value_promised : (u : tables.Table) (a : Act) → Promised (by_value u) (by_value_made u a)
 by_value_promised u (commands c) = runs_so u c
 by_value_promised u (withdraws w) = refl
 
@@ -110,7 +110,7 @@ stored_promised s (commands c) n = refl
 stored_promised s (withdraws w) n = refl
 
 -- the step that it is
-by_value-step : (u : by_value.Table) (a : Act) → table_output_of a ≡ none → steps_of (by_value_made u a) ≡ record { act = a; form = itself } ∷ []
+by_value-step : (u : tables.Table) (a : Act) → table_output_of a ≡ none → steps_of (by_value_made u a) ≡ record { act = a; form = itself } ∷ []
 by_value-step u (commands c) o = rw (zeros_long c.output, ← o)
 by_value-step u (withdraws w) o = rw (← o)
 
@@ -129,7 +129,7 @@ abbrev storing_all : Table → Storing
 storing_all t =
     record { before = zeros max_stored; after = over (encode t) (zeros max_stored); written = output.Wrote (length (encode t)) }
 
-stores_so : (u : by_value.Table) (t : Table) → table_of (value (view_table u)) ≡ some t → Promised (by_value u) (store (storing_all t))
+stores_so : (u : tables.Table) (t : Table) → table_of (value (view_table u)) ≡ some t → Promised (by_value u) (store (storing_all t))
 unfolding storing written.ends judge
 stores_so u t is = rw (view-is u t is, given-ok _ t is)
 
@@ -147,7 +147,7 @@ unfolding steps
 after k m p e (ms, c, q) = (m ∷ ms, (p, c), cc (e, q))
 
 module _ (x : Step) (ss : List Step) (rest : (k : Held) (t : Table) → Good k t → Rest k ss) where
-  value_held : (u : by_value.Table) (t : Table) → Good (by_value u) t → x.form ≡ itself → table_output_of x.act ≡ none → Rest (by_value u) (x ∷ ss)
+  value_held : (u : tables.Table) (t : Table) → Good (by_value u) t → x.form ≡ itself → table_output_of x.act ≡ none → Rest (by_value u) (x ∷ ss)
   value_held u t is f o =
       let m = by_value_made u x.act in
       let p = by_value_promised u x.act in

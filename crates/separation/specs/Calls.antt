@@ -21,7 +21,7 @@ use Rattle.by_value.specs.Runs as runs
 use Rattle.by_value.specs.declared.Answered.{Answered}
 use Rattle.by_value.specs.declared.Answered.TheVariants as answered
 use Rattle.by_value.specs.declared.Ran.{Ran}
-use Rattle.by_value.specs.Withdrew as by_value
+use Rattle.by_value.specs.Withdrew as withdrawals
 use Rattle.by_value.specs.declared.withdraw.Withdrew.{Withdrew}
 use Rattle.token.specs.Returned.{Returned, draft_number, returned}
 use Rattle.token.specs.Written.{ReturnedBytes, returned_bytes}
@@ -118,7 +118,7 @@ Promised (as_stored s) (store m) = ⊥
 Promised (by_value t) (command m) = ⊥
 Promised (by_value t) (run m) = runs.ended m.ran m.after ≡ runs.ends (outcome (run_call m) (value (view_table t))) t m.before
 Promised (by_value t) (withdrawing m) = ⊥
-Promised (by_value t) (taking m) = m.withdrew ≡ by_value.withdrew (withdraw (taking_of m) (value (view_table t))) t
+Promised (by_value t) (taking m) = m.withdrew ≡ withdrawals.withdrew (withdraw (taking_of m) (value (view_table t))) t
 Promised (by_value t) (load l) = ⊥
 Promised (by_value t) (store m) = written.ended m.written m.after ≡ written.ends (storing (view_table t) (length m.before)) m.before
 
