@@ -1,5 +1,7 @@
 // A call on a table by value: the table is put into the stored form, the call goes the way of every call, and the table left is taken out again.
 // `withdraw` has the withdrawal.
+#![tactic(auto)]
+
 pub mod withdraw;
 
 ghost use Rattle.std.specs.Prelude.{◌≡◌, length};

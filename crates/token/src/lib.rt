@@ -1,4 +1,6 @@
 // The entries: numbers and byte stretches only. crates/token_c exports them for C.
+#![tactic(auto)]
+
 pub mod hashes;
 pub mod responses;
 mod told;
