@@ -63,6 +63,9 @@ module _ (r : Record) (typed : Typed r) where
 
 -- ---- a table
 
+pub too_many : (t : Table) → 32 < t.len → false ≡ (leb (length (view_table t)) max_records && all record_ok (view_table t))
+too_many t h = rw (length-view t, lt-leb t.len 32 h)
+
 -- what the rules of its records say of a table by value: how many it has, and a name's length
 module _ (t : Table) (ok : (leb (length (view_table t)) max_records && all record_ok (view_table t)) ≡ true) where
   pub few-records : t.len ≤ 32

@@ -66,6 +66,7 @@ pub fn put_form(out: &mut [u8], t: Table) -> usize
 }
 
 // Writes the stored form of a table: refusal 1 for an output that is too short, then 2 for a table that breaks a rule.
+#[tactic(auto, using(crate::proofs::StoreLaws::stores_short))]
 pub fn store(t: Table, out: &mut [u8]) -> Written
     ensures { ended result out.new ≡ ends (storing (view_table t) (length out.old)) out.old }
 {

@@ -55,6 +55,7 @@ fn each_ok(t: Table) -> bool
 
 // Whether there are at most 32 records, each of which obeys its rules. That no KeyID stands there twice, and no mixed token too often, is found
 // when the table's stored form is read.
+#[tactic(auto, using(crate::proofs::RuleLaws::too_many))]
 pub fn records_ok(t: Table) -> bool
     ensures { result ≡ (leb (length (view_table t)) max_records && all record_ok (view_table t)) }
 {
