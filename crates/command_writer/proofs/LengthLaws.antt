@@ -71,6 +71,9 @@ module _ (f : Field) (v : List ℕ) where
   pub one_size : takes (mandatory f) (one v) ≤ max_command → takes (mandatory f) (one v) ≡ 4 + length v
   one_size h = takes-ok _ _ (obeys _ _ h) ∙ length-one (tag_of f) v
 
+-- a field that may be left away, by its mark
+pub ruleset by_mark = (marked-none, marked-one, marked-not)
+
 -- the index, which is 0
 pub index-takes : takes (mandatory index) (one (0 ∷ [])) ≡ 5
 unfolding takes fits eq_bytes bytes le
@@ -84,6 +87,9 @@ number_fits n h = rw (lt-ltb n 65536 h)
 pub number-not : (n : ℕ) → 65536 ≤ n → takes (mandatory attestation_type) (number n) ≡ too_long
 unfolding number takes
 number-not n h = rw (le-ltb n 65536 h)
+
+-- any number, by its size
+pub ruleset by_number = (number_fits, number-not)
 
 module _ (n : ℕ) (h : takes (mandatory attestation_type) (number n) ≤ max_command) where
   number_small : n < 65536

@@ -42,6 +42,9 @@ module _ {d : List ℕ} {at mark : ℕ} (tag : ℕ) (v : List ℕ) where
 pub given-size : (mark n : ℕ) → mark ≡ 1 → given_size mark n ≡ 4 + n
 given-size mark n e = rw (eq-eqb mark 1 e)
 
+-- a field that may be left away, by its mark
+pub ruleset marked_written = (given-size, wrote-given, wrote-not-given)
+
 -- key handles: none yet, and one more
 pub no_handles : (d : List ℕ) (at : ℕ) (s : List ℕ) → at ≤ length d → Wrote d at (bytes (handle_tlvs 0 s)) 0 d at
 unfolding handle_tlvs bytes

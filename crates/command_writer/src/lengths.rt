@@ -43,6 +43,7 @@ pub fn one_len(slot: usize, v: &[u8]) -> usize
 }
 
 // A field that may be left away.
+#[tactic(auto, using(crate::proofs::LengthLaws::by_mark))]
 pub fn marked_len(slot: usize, mark: u32, v: &[u8]) -> usize
     ensures { (result ≡ takes (optional (slot_field slot)) (marked mark v.now)) × (result ≤ 8196) }
 {
@@ -56,6 +57,7 @@ pub fn marked_len(slot: usize, mark: u32, v: &[u8]) -> usize
 }
 
 // The attestation type.
+#[tactic(auto, using(crate::proofs::LengthLaws::by_number))]
 pub fn type_len(n: u32) -> usize
     ensures { (result ≡ takes (mandatory attestation_type) (number n)) × (result ≤ 8196) }
 {

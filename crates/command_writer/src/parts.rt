@@ -9,6 +9,7 @@ use fields::tags;
 use tlv::writer::{put_header, put_tlv};
 
 // A field that may be left away, if it is given.
+#[tactic(auto, using(crate::proofs::PartLaws::marked_written))]
 pub fn put_marked(out: &mut [u8], at: usize, tag: usize, mark: u32, v: &[u8]) -> usize
     requires { at + given_size mark (length v.now) ≤ length out.old }
     ensures { Wrote out.old at (bytes (given_tlvs tag mark v.now)) (given_size mark (length v.now)) out.new result }

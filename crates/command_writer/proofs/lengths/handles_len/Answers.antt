@@ -13,7 +13,7 @@ returns-then-not-are_whole c =
     (sym (handles-not _ _ (λ h. clash (c.are_whole.ensures ∙ h.1) c.if-not-are_whole.true)), omega arith)
 
 pub returns-then-handles-sizes : goal.returns-then-handles-sizes
-returns-then-handles-sizes c = (sym (handles-not _ _ (λ h. c.if-handles-sizes.true h.2)), omega arith)
+returns-then-handles-sizes c = (sym (handles-not _ _ (λ h. absurd (omega (arith, h.2, c.if-handles-sizes.true)))), omega arith)
 
 pub returns : goal.returns
 returns c =

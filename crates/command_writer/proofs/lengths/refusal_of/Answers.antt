@@ -1,17 +1,17 @@
 -- Too long is 6, then an output that is too short 1.
-use borrow.Author.Tests.{lt-ltb, le-ltb}
-use Rattle.model.specs.Tlv.{max_command}
+use native.Mathlib.Omega.{arith}
+use Rattle.std.proofs.lemmas.Bool.Decides.{nat_tests}
 use Rattle.command_writer.specs.Lengths.{refusal_of}
 use Rattle.command_writer.proofs.lengths.refusal_of.Goals as goal
 
 pub returns-then-len-gt-MAX_COMMAND : goal.returns-then-len-gt-MAX_COMMAND
 unfolding refusal_of
-returns-then-len-gt-MAX_COMMAND c = rw (lt-ltb max_command _ c.if-len-gt-MAX_COMMAND.true)
+returns-then-len-gt-MAX_COMMAND c = grind (arith, nat_tests)
 
 pub returns-then-room-len : goal.returns-then-room-len
 unfolding refusal_of
-returns-then-room-len c = rw (le-ltb max_command _ c.if-len-gt-MAX_COMMAND.false, lt-ltb _ _ c.if-room-len.true)
+returns-then-room-len c = grind (arith, nat_tests)
 
 pub returns : goal.returns
 unfolding refusal_of
-returns c = rw (le-ltb max_command _ c.if-len-gt-MAX_COMMAND.false, le-ltb _ _ c.if-room-len.false)
+returns c = grind (arith, nat_tests)
