@@ -26,8 +26,13 @@ returns c =
     let app-id = c.part_of-2.ensures ∙ q.app-id.value in
     rw (sym (rw c.requires.broken-is at c.looks_up.ensures) ∙ not-false _ c.if-not-looks_up.false-raw) (rw (token, app-id) at c.hash.ensures)
 
+-- whichever of the two is at hand
 pub part_of-requires : goal.part_of-requires
-part_of-requires c = (placed (goal.at.part_of-requires c).Else-not-looks_up).access-token.inside
+part_of-requires c =
+    let q = placed (goal.at.part_of-requires c).Else-not-looks_up in
+    assumption (q.access-token.inside, q.app-id.inside)
 
 pub part_of-requires-2 : goal.part_of-requires-2
-part_of-requires-2 c = (placed (goal.at.part_of-requires-2 c).Else-not-looks_up).app-id.inside
+part_of-requires-2 c =
+    let q = placed (goal.at.part_of-requires-2 c).Else-not-looks_up in
+    assumption (q.access-token.inside, q.app-id.inside)
