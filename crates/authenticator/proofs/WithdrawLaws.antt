@@ -1,24 +1,33 @@
 -- What the code of a withdrawal needs to know: its lengths, what it finds of the record, and what is written of the table left.
 -- Assumes nothing.
-use mathlib.Core.Path.{◌≡◌, refl, ◌∙◌}
+use mathlib.Core.Path.{◌≡◌, refl, ap, ◌∙◌}
 use mathlib.Core.Bool.{Bool, true, false, cond, ◌&&◌}
 use mathlib.Core.List.{List, [], ◌∷◌}
 use mathlib.Core.Option.{some, get_or}
-use Prim.Native.Nat.{ℕ, ◌-◌, ◌≤◌}
+use Prim.Native.Nat.{ℕ, ◌-◌, ◌≤◌, ◌<◌}
 use native.Mathlib.Omega.{arith}
 use native.Mathlib.Nat.{sub-zero}
 use lib.ListN.{length, take}
 use Rattle.model.specs.Tlv.{fits, key_id, mixed_token}
-use Rattle.model.specs.Records.{Table, own, max_stored}
-use Rattle.model.specs.Commands.{check, judge, refused, gave, Given, table_of, remove, apply}
+use Rattle.model.specs.Records.{Table, own, max_stored, encode}
+use Rattle.model.specs.Commands.{check, judge, refused, gave, Given, table_of, on_gave, remove, apply}
 use Rattle.model.specs.Withdrawals.{Withdrawal, withdrawal_checks, withdraw}
 use Rattle.model.proofs.Basics.{clash}
-use Rattle.model.proofs.WithdrawalLaws.{both_fit, fit_both, withdraw-wrongly, withdraw-looks}
+use Rattle.model.proofs.WithdrawalLaws.{withdraw-short, both_fit, fit_both, withdraw-wrongly, withdraw-looks}
+use Rattle.fields.specs.Refusals.{ended, ends}
+use Rattle.fields.specs.declared.refusals.Written.TheVariants as written
+use Rattle.fields.proofs.RefusalLaws.{ends-refused}
 use Rattle.stored_table.specs.Stored.{Indexed}
 use Rattle.stored_table.specs.Index.{IndexIs}
 use Rattle.stored_table.specs.Changes.{removal}
 use Rattle.stored_table.specs.Newest.{withdrawable}
 use Rattle.stored_table.specs.declared.index.Index.{Index}
+use Rattle.authenticator.specs.Withdrawing.{withdrawal}
+
+-- refusal 1 as it is told, with the output as it came
+pub short_told : (m k out : List ℕ) (g : Given) → length out < max_stored
+    → ended (written.Refused 1) out ≡ ends (on_gave encode (withdraw (withdrawal m k (some (length out))) g)) out
+short_told m k out g h = ends-refused 1 (ap (on_gave encode) (withdraw-short _ g h))
 
 -- three checks that say the same
 says_once : {A : Type 0} (n : ℕ) (says : ℕ → A) (passed : A) (a b c : Bool) → let cs = check n a ∷ check n b ∷ check n c ∷ [] in

@@ -27,6 +27,7 @@ fn are_sized(mixed: &[u8], key_id: &[u8]) -> bool
 
 // A withdrawal on a table in its stored form: the refusals in their order, then the table is written without the record. The lengths are asked before the
 // record is looked for, because a value of a wrong length stands in no record and would be refused with 7.
+#[tactic(auto, using(crate::proofs::WithdrawLaws::short_told))]
 pub fn withdraw(mixed: &[u8], key_id: &[u8], table: &[u8], table_out: &mut [u8]) -> Written
     ensures { ended result table_out.new
         ≡ ends

@@ -3,6 +3,7 @@ use mathlib.Core.Path.{◌≡◌, sym, ◌∙◌}
 use mathlib.Core.Bool.{false}
 use lib.Dec.{leb}
 use lib.ListN.{length}
+use native.Mathlib.Omega.{arith}
 use borrow.Author.Tests.{ne_eqb, eq-eqb, le-leb, lt-leb, not-true, not-false}
 use Rattle.model.specs.Lists.{among}
 use Rattle.model.specs.Records.{own, key_ids}
@@ -22,7 +23,7 @@ passed : (c : Else-not-is_supported) → let a = c.args in Admitted a.command.no
 passed c =
     record {
       unbroken = (sym c.requires.params_read.broken-is ∙ c.if-params.false);
-      user = c.if-numbers-ne0.false;
+      user = omega arith;
       supported = sym ((rw (type-is _ _ (sym c.requires.params_read.broken-is ∙ c.if-params.false) (c.requires.params_read.unless_broken (sym c.requires.params_read.broken-is ∙ c.if-params.false)).attestation-type c.get16.result c.get16.ensures) at c.is_supported.ensures)) ∙ not-false _ c.if-not-is_supported.false-raw;
     }
 
@@ -44,7 +45,7 @@ get16-requires c =
 pub returns-then-not-is_supported : goal.returns-then-not-is_supported
 unfolding judge register_checks
 returns-then-not-is_supported c =
-    simp ((sym c.requires.params_read.broken-is ∙ c.if-params.false), eq-eqb _ _ c.if-numbers-ne0.false, sym ((rw (type-is _ _ (sym c.requires.params_read.broken-is ∙ c.if-params.false) (c.requires.params_read.unless_broken (sym c.requires.params_read.broken-is ∙ c.if-params.false)).attestation-type c.get16.result c.get16.ensures) at c.is_supported.ensures)) ∙ not-true _ c.if-not-is_supported.true-raw)
+    simp ((sym c.requires.params_read.broken-is ∙ c.if-params.false), eq-eqb c.args.numbers.verdict 0 (omega arith), sym ((rw (type-is _ _ (sym c.requires.params_read.broken-is ∙ c.if-params.false) (c.requires.params_read.unless_broken (sym c.requires.params_read.broken-is ∙ c.if-params.false)).attestation-type c.get16.result c.get16.ensures) at c.is_supported.ensures)) ∙ not-true _ c.if-not-is_supported.true-raw)
 
 pub returns-then-is_stored : goal.returns-then-is_stored
 returns-then-is_stored c = sym (admitted _ _ _ _ _ _ _ (passed (goal.at.returns-then-is_stored c).Else-not-is_supported) ∙ rw (sym c.is_stored.ensures ∙ c.if-is_stored.true))
