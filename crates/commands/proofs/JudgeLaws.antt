@@ -9,7 +9,7 @@ use lib.Dec.{eqb, leb}
 use lib.ListN.{length, get_or}
 use borrow.Author.Tests.{eq-eqb}
 use Rattle.model.specs.Lists.{empty}
-use Rattle.model.specs.Tlv.{num, Field, attestation_type, full, surrogate, register, broken, field_in}
+use Rattle.model.specs.Tlv.{num, Kind, Field, attestation_type, full, surrogate, register, broken, field_in}
 use Rattle.model.specs.Records.{Table, max_own}
 use Rattle.model.specs.Commands.{Lent, judge, register_checks}
 use Rattle.model.proofs.Fields.{field_fits}
@@ -18,7 +18,8 @@ use Rattle.tlv.specs.Numbers.{NumberAt}
 use Rattle.tlv.specs.declared.heads.Span.{Span}
 use Rattle.tlv.proofs.NumberLaws.{num-between}
 use Rattle.tlv.proofs.HeadLaws.{length_part, part-empty}
-use Rattle.params.specs.Parse.{Placed}
+use Rattle.params.specs.Parse.{Placed, ParamsPlaced, ParamsRead}
+use Rattle.params.specs.declared.parse.Params.{Params}
 
 -- ---- past the end of a list of statuses
 
@@ -41,6 +42,16 @@ pub no_status : (ss : List ℕ) (x : ℕ) → NoPlace (Unit {0}) x 1 ss → 0 �
 no_status ss zero h = refl
 no_status ss (suc k) h = sym (past_end (Unit {0}) (suc k) 1 k ss (omega arith) h)
 
+-- ---- a command whose parameters say that it breaks no rule
+
+module _ {k : Kind} {s : List ℕ} {p : Params} (r : ParamsRead k s p) (e : p.broken ≡ false) where
+  pub breaks_none : broken k s ≡ false
+  breaks_none = sym r.broken-is ∙ e
+
+  -- and each field stands where they say
+  pub placed : ParamsPlaced s p
+  placed = r.unless_broken breaks_none
+
 -- ---- Register: the attestation type
 
 module _ (s : List ℕ) (p : Span) (b : broken register s ≡ false) (h : Placed s attestation_type p) where
@@ -58,6 +69,11 @@ module _ (s : List ℕ) (p : Span) (b : broken register s ≡ false) (h : Placed
   -- the number there
   pub type-is : (r : ℕ) → NumberAt 2 s p.start r → r ≡ num (field_in attestation_type s)
   type-is r n = sym (ap num (sym h.value) ∙ num-between s p.start p.end ∙ rw type_width (sym n.value))
+
+  -- what a test of that number says of the attestation type
+  pub type_told : (r : ℕ) → NumberAt 2 s p.start r → {t : Bool} → t ≡ (eqb r full || eqb r surrogate)
+      → (eqb (num (field_in attestation_type s)) full || eqb (num (field_in attestation_type s)) surrogate) ≡ t
+  type_told r n e = rw (← type-is r n) (sym e)
 
 -- the first three checks pass, where v is the verdict
 pub record Admitted (s : List ℕ) (v : ℕ) : Type 0 where

@@ -4,27 +4,50 @@ use mathlib.Core.Bool.{false}
 use lib.Dec.{leb}
 use lib.ListN.{length}
 use native.Mathlib.Omega.{arith}
-use borrow.Author.Tests.{ne_eqb, eq-eqb, le-leb, lt-leb, not-true, not-false}
+use borrow.Author.Tests.{ne_eqb, eq-eqb, le-leb, lt-leb}
 use Rattle.model.specs.Lists.{among}
 use Rattle.model.specs.Records.{own, key_ids}
 use Rattle.model.specs.Commands.{judge, register_checks}
 use Rattle.stored_table.specs.Stored.{table_in}
 use Rattle.stored_table.proofs.IndexLaws.{length-places}
-use Rattle.commands.proofs.JudgeLaws.{type-inside, type-is, Admitted, admitted}
+use Rattle.commands.proofs.JudgeLaws.{breaks_none, placed, type-inside, type_told, Admitted, admitted}
 use Rattle.commands.proofs.register.judge_register.Goals as goal
 use Rattle.commands.proofs.register.judge_register.Goals.{Else-is_stored, Else-not-is_supported, Else-own_count-ge-MAX_OWN}
 
+pub returns-then-params : goal.returns-then-params
+unfolding judge register_checks
+returns-then-params c = rw (sym c.requires.params_read.broken-is ∙ c.if-params.true)
+
 pub returns-then-numbers-ne0 : goal.returns-then-numbers-ne0
 unfolding judge register_checks
-returns-then-numbers-ne0 c = simp ((sym c.requires.params_read.broken-is ∙ c.if-params.false), ne_eqb _ _ c.if-numbers-ne0.true, c.verdict_status.ensures)
+returns-then-numbers-ne0 c =
+    simp (breaks_none c.requires.params_read c.if-params.false, ne_eqb _ _ c.if-numbers-ne0.true, c.verdict_status.ensures)
+
+pub get16-requires : goal.get16-requires
+get16-requires c =
+    let r = c.requires.params_read in
+    type-inside _ _ (breaks_none r c.if-params.false) (placed r c.if-params.false).attestation-type
+
+pub returns-then-not-is_supported : goal.returns-then-not-is_supported
+unfolding judge register_checks
+returns-then-not-is_supported c =
+    let b = breaks_none c.requires.params_read c.if-params.false in
+    let h = (placed c.requires.params_read c.if-params.false).attestation-type in
+    simp (
+      b,
+      eq-eqb c.args.numbers.verdict 0 (omega arith),
+      type_told _ _ b h _ c.get16.ensures c.is_supported.ensures ∙ c.if-not-is_supported.true,
+    )
 
 -- the first three checks pass
 passed : (c : Else-not-is_supported) → let a = c.args in Admitted a.command.now a.numbers.verdict
 passed c =
+    let b = breaks_none c.requires.params_read c.if-params.false in
+    let h = (placed c.requires.params_read c.if-params.false).attestation-type in
     record {
-      unbroken = (sym c.requires.params_read.broken-is ∙ c.if-params.false);
+      unbroken = b;
       user = omega arith;
-      supported = sym ((rw (type-is _ _ (sym c.requires.params_read.broken-is ∙ c.if-params.false) (c.requires.params_read.unless_broken (sym c.requires.params_read.broken-is ∙ c.if-params.false)).attestation-type c.get16.result c.get16.ensures) at c.is_supported.ensures)) ∙ not-false _ c.if-not-is_supported.false-raw;
+      supported = type_told _ _ b h _ c.get16.ensures c.is_supported.ensures ∙ c.if-not-is_supported.false;
     }
 
 fresh : (c : Else-is_stored) → let a = c.args in among a.key_id.now (key_ids (table_in a.table.now)) ≡ false
@@ -34,32 +57,27 @@ few : (c : Else-own_count-ge-MAX_OWN) → let a = c.args in
     leb 8 (length (own a.mixed.now (table_in a.table.now))) ≡ false
 few c = lt-leb _ _ (rw c.own_count.ensures at c.if-own_count-ge-MAX_OWN.false)
 
-pub returns-then-params : goal.returns-then-params
-unfolding judge register_checks
-returns-then-params c = rw (sym c.requires.params_read.broken-is ∙ c.if-params.true)
-
-pub get16-requires : goal.get16-requires
-get16-requires c =
-    type-inside _ _ (sym c.requires.params_read.broken-is ∙ c.if-params.false) (c.requires.params_read.unless_broken (sym c.requires.params_read.broken-is ∙ c.if-params.false)).attestation-type
-
-pub returns-then-not-is_supported : goal.returns-then-not-is_supported
-unfolding judge register_checks
-returns-then-not-is_supported c =
-    simp ((sym c.requires.params_read.broken-is ∙ c.if-params.false), eq-eqb c.args.numbers.verdict 0 (omega arith), sym ((rw (type-is _ _ (sym c.requires.params_read.broken-is ∙ c.if-params.false) (c.requires.params_read.unless_broken (sym c.requires.params_read.broken-is ∙ c.if-params.false)).attestation-type c.get16.result c.get16.ensures) at c.is_supported.ensures)) ∙ not-true _ c.if-not-is_supported.true-raw)
-
 pub returns-then-is_stored : goal.returns-then-is_stored
-returns-then-is_stored c = sym (admitted _ _ _ _ _ _ _ (passed (goal.at.returns-then-is_stored c).Else-not-is_supported) ∙ rw (sym c.is_stored.ensures ∙ c.if-is_stored.true))
+returns-then-is_stored c =
+    let p = passed (goal.at.returns-then-is_stored c).Else-not-is_supported in
+    sym (admitted _ _ _ _ _ _ _ p ∙ rw (sym c.is_stored.ensures ∙ c.if-is_stored.true))
 
 pub returns-then-own_count-ge-MAX_OWN : goal.returns-then-own_count-ge-MAX_OWN
 returns-then-own_count-ge-MAX_OWN c =
+    let back = goal.at.returns-then-own_count-ge-MAX_OWN c in
     let n = c.own_count.ensures in
-    sym (admitted _ _ _ _ _ _ _ (passed (goal.at.returns-then-own_count-ge-MAX_OWN c).Else-not-is_supported) ∙ rw (fresh (goal.at.returns-then-own_count-ge-MAX_OWN c).Else-is_stored, le-leb _ _ (rw n at c.if-own_count-ge-MAX_OWN.true)))
+    sym (admitted _ _ _ _ _ _ _ (passed back.Else-not-is_supported)
+    ∙ rw (fresh back.Else-is_stored, le-leb _ _ (rw n at c.if-own_count-ge-MAX_OWN.true)))
 
 -- by how many places there are, which is how many records
 pub returns-then-places-ge-MAX_RECORDS : goal.returns-then-places-ge-MAX_RECORDS
 returns-then-places-ge-MAX_RECORDS c =
-    sym (admitted _ _ _ _ _ _ _ (passed (goal.at.returns-then-places-ge-MAX_RECORDS c).Else-not-is_supported) ∙ rw (fresh (goal.at.returns-then-places-ge-MAX_RECORDS c).Else-is_stored, few (goal.at.returns-then-places-ge-MAX_RECORDS c).Else-own_count-ge-MAX_OWN, ← length-places c.requires.indexed, le-leb _ _ c.if-places-ge-MAX_RECORDS.true))
+    let back = goal.at.returns-then-places-ge-MAX_RECORDS c in
+    sym (admitted _ _ _ _ _ _ _ (passed back.Else-not-is_supported)
+    ∙ rw (fresh back.Else-is_stored, few back.Else-own_count-ge-MAX_OWN, ← length-places c.requires.indexed, le-leb _ _ c.if-places-ge-MAX_RECORDS.true))
 
 pub returns : goal.returns
 returns c =
-    sym (admitted _ _ _ _ _ _ _ (passed (goal.at.returns c).Else-not-is_supported) ∙ rw (fresh (goal.at.returns c).Else-is_stored, few (goal.at.returns c).Else-own_count-ge-MAX_OWN, ← length-places c.requires.indexed, lt-leb _ _ c.if-places-ge-MAX_RECORDS.false))
+    let back = goal.at.returns c in
+    sym (admitted _ _ _ _ _ _ _ (passed back.Else-not-is_supported)
+    ∙ rw (fresh back.Else-is_stored, few back.Else-own_count-ge-MAX_OWN, ← length-places c.requires.indexed, lt-leb _ _ c.if-places-ge-MAX_RECORDS.false))

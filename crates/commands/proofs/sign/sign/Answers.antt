@@ -1,17 +1,15 @@
 -- A status alone where none is chosen, one record signed for, or the names of several.
 use mathlib.Core.Path.{sym, ap, ◌∙◌}
 use mathlib.Core.Bool.{not}
-use Prim.Native.Nat.{◌<◌}
-use lib.ListN.{length, get_or}
 use native.Mathlib.Nat.{sub-zero}
 use native.Mathlib.Omega.{arith}
 use Rattle.model.specs.Records.{Record}
 use Rattle.model.specs.Commands.{has_content}
 use Rattle.params.specs.Parse.{HandlesPlaced, ParamsPlaced}
 use Rattle.stored_table.specs.Stored.{table_in}
-use Rattle.stored_table.proofs.IndexLaws.{record-at, length-places, few-places}
+use Rattle.stored_table.proofs.IndexLaws.{record-at, few-places}
 use Rattle.commands.proofs.JudgeLaws.{placed_empty}
-use Rattle.commands.proofs.SignLaws.{Chose, chose, sign-fails, sign-placed, handles_placed, none_chosen, one-chosen, several_chosen}
+use Rattle.commands.proofs.SignLaws.{Chose, chose, sign-fails, sign-placed, handles_placed, none_chosen, one-chosen, several_chosen, one_placed}
 use Rattle.commands.proofs.sign.sign.Goals as goal
 use Rattle.commands.proofs.sign.sign.Goals.{After-choose-named, In-Passes}
 
@@ -51,21 +49,20 @@ bounds-chosen-0 c = omega (arith, (found (goal.at.bounds-chosen-0 c).After-choos
 
 pub offset_bounds-places-i : goal.offset_bounds-places-i
 offset_bounds-places-i c =
-    let first : get_or c.choose-named.new.chosen 0 0 < length c.args.places.now = omega (arith, ((found (goal.at.offset_bounds-places-i c).After-choose-named).mine c.if-named-eq1.true).there, length-places c.requires.indexed) in
-    omega (arith, first, few-places c.requires.indexed)
+    omega (arith, one_placed (found (goal.at.offset_bounds-places-i c).After-choose-named) c.if-named-eq1.true c.requires.indexed, few-places c.requires.indexed)
 
 pub count_of-count-requires : goal.count_of-count-requires
 count_of-count-requires c =
-    let first : get_or c.choose-named.new.chosen 0 0 < length c.args.places.now = omega (arith, ((found (goal.at.count_of-count-requires c).After-choose-named).mine c.if-named-eq1.true).there, length-places c.requires.indexed) in
-    (record-at c.requires.indexed _ first).stands
+    (record-at c.requires.indexed _ (one_placed (found (goal.at.count_of-count-requires c).After-choose-named) c.if-named-eq1.true c.requires.indexed)).stands
 
 pub returns-then-named-eq1 : goal.returns-then-named-eq1
 unfolding has_content
 returns-then-named-eq1 c =
-    let first : get_or c.choose-named.new.chosen 0 0 < length c.args.places.now = omega (arith, ((found (goal.at.returns-then-named-eq1 c).After-choose-named).mine c.if-named-eq1.true).there, length-places c.requires.indexed) in
-    λ k. one-chosen (found (goal.at.returns-then-named-eq1 c).After-choose-named) c.if-named-eq1.true
+    let w = found (goal.at.returns-then-named-eq1 c).After-choose-named in
+    let i = one_placed w c.if-named-eq1.true c.requires.indexed in
+    λ k. one-chosen w c.if-named-eq1.true
     (ap not (placed_empty _ _ _ (placed (goal.at.returns-then-named-eq1 c).In-Passes).transaction-content ∙ sym c.is_empty.ensures))
-    (sym (c.count_of-count.ensures ∙ ap (λ (r : Record). r.count) (record-at c.requires.indexed _ first).is))
+    (sym (c.count_of-count.ensures ∙ ap (λ (r : Record). r.count) (record-at c.requires.indexed _ i).is))
     c.sign_one.ensures
 
 pub returns-else-named-eq1 : goal.returns-else-named-eq1
@@ -75,6 +72,4 @@ pub slice_bounds-choose-end : goal.slice_bounds-choose-end
 slice_bounds-choose-end c = omega (arith, (given c).few)
 
 pub bounds-places-i : goal.bounds-places-i
-bounds-places-i c =
-    let first : get_or c.choose-named.new.chosen 0 0 < length c.args.places.now = omega (arith, ((found (goal.at.bounds-places-i c).After-choose-named).mine c.if-named-eq1.true).there, length-places c.requires.indexed) in
-    first
+bounds-places-i c = one_placed (found (goal.at.bounds-places-i c).After-choose-named) c.if-named-eq1.true c.requires.indexed
