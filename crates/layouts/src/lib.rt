@@ -3,7 +3,8 @@
 // What is asked of a field is given as constants, so that each call is compiled to a few comparisons.
 #![tactic(auto)]
 
-ghost use Rattle.std.specs.Prelude.{◌≡◌, true};
+ghost use Rattle.std.specs.Prelude.{◌≡◌, ℕ, ◌≤◌, Bool, true, List, length};
+ghost use Rattle.std.specs.Fn.{FnReturnsAt};
 ghost use Rattle.model.specs.Lists.{eq_bytes};
 ghost use Rattle.model.specs.Tlv.{rule, sized, username, assertion_info, content_hash, no_counts, new_count, krd_tag, pair_tag};
 ghost use Rattle.model.specs.Layouts.{reads};
@@ -15,7 +16,7 @@ ghost use Rattle.layouts.specs.Groups.{krd_fields, signed_rest, is_signed_data, 
 use fields::sizes::Size;
 use fields::{sizes, tags};
 use tlv::bytes::same;
-use tlv::numbers::{get16, get32};
+use tlv::numbers::{get16, get32, get64};
 use utf8::is_utf8;
 
 // The place after a TLV with this tag.
@@ -79,74 +80,53 @@ pub fn after_sized(s: &[u8], at: usize, size: Size) -> usize
     at + 4 + len
 }
 
+// The place after a field whose value passes a test, which is asked only of values of this size.
+fn after_allowed<F: Fn(&[u8]) -> bool>(s: &[u8], at: usize, size: Size, allowed: F) -> usize
+    requires { (v : _) → size.least ≤ length v.now → length v.now ≤ size.most → F.pre allowed v }
+    ensures { (test : List ℕ → Bool)
+        → ((v : List ℕ) (b : Bool) → size.least ≤ length v → length v ≤ size.most → FnReturnsAt F.Fn allowed v b → b ≡ test v)
+        → result ≡ after_rule (rule size.tag size.least size.most test) s.now at }
+{
+    let end = after_sized(s, at, size);
+    if end <= s.len() && allowed(&s[at + 4..end]) {
+        return end;
+    }
+    s.len() + 1
+}
+
 // The place after a field that has one value only.
 pub fn after_fixed(s: &[u8], at: usize, size: Size, value: &[u8]) -> usize
     ensures { result ≡ after_rule (rule size.tag size.least size.most (eq_bytes value.now)) s.now at }
 {
-    let end = after_sized(s, at, size);
-    if s.len() < end {
-        return s.len() + 1;
-    }
-    if !same(value, &s[at + 4..end]) {
-        return s.len() + 1;
-    }
-    end
+    after_allowed(s, at, size, |v| same(value, v))
 }
 
 // The place after a username.
 fn after_name(s: &[u8], at: usize) -> usize
     ensures { result ≡ after_field username s.now at }
 {
-    let end = after_sized(s, at, sizes::USERNAME);
-    if s.len() < end {
-        return s.len() + 1;
-    }
-    if !is_utf8(&s[at + 4..end]) {
-        return s.len() + 1;
-    }
-    end
+    after_allowed(s, at, sizes::USERNAME, is_utf8)
 }
 
 // The place after KRD's ASSERTION_INFO: its third byte, the mode, is 1.
 fn after_krd_info(s: &[u8], at: usize) -> usize
     ensures { result ≡ after_field (assertion_info 7 1) s.now at }
 {
-    let end = after_sized(s, at, sizes::KRD_INFO);
-    if s.len() < end {
-        return s.len() + 1;
-    }
-    if s[at + 6] != 1 {
-        return s.len() + 1;
-    }
-    end
+    after_allowed(s, at, sizes::KRD_INFO, |v| v[2] == 1)
 }
 
 // The place after KRD's COUNTERS: both are zero.
 fn after_no_counts(s: &[u8], at: usize) -> usize
     ensures { result ≡ after_field no_counts s.now at }
 {
-    let end = after_sized(s, at, sizes::TWO_COUNTERS);
-    if s.len() < end {
-        return s.len() + 1;
-    }
-    if get32(s, at + 4) + get32(s, at + 8) != 0 {
-        return s.len() + 1;
-    }
-    end
+    after_allowed(s, at, sizes::TWO_COUNTERS, |v| get64(v, 0) == 0)
 }
 
 // The place after SIGNED_DATA's COUNTERS, a new count: it is not zero.
 fn after_count(s: &[u8], at: usize) -> usize
     ensures { result ≡ after_field new_count s.now at }
 {
-    let end = after_sized(s, at, sizes::COUNTER);
-    if s.len() < end {
-        return s.len() + 1;
-    }
-    if get32(s, at + 4) == 0 {
-        return s.len() + 1;
-    }
-    end
+    after_allowed(s, at, sizes::COUNTER, |v| 0 < get32(v, 0))
 }
 
 // The place after SIGNED_DATA's TRANSACTION_CONTENT_HASH, which is empty without content.
@@ -224,58 +204,43 @@ fn is_record(s: &[u8]) -> bool
     end == s.len()
 }
 
-// The place after KRD. The value of a group after which something may follow is read as its own stretch, here and below.
+// The place after a group: a TLV with this tag whose value passes a test. The value is read as its own stretch, since something may follow.
+fn after_inside<F: Fn(&[u8]) -> bool>(s: &[u8], at: usize, tag: usize, inside: F) -> usize
+    requires { F.IsAlwaysCallable inside }
+    ensures { (test : List ℕ → Bool) → ((v : List ℕ) (b : Bool) → FnReturnsAt F.Fn inside v b → b ≡ test v)
+        → result ≡ after_tlv tag test s.now at }
+{
+    let end = after_tag(s, at, tag);
+    if end <= s.len() && inside(&s[at + 4..end]) {
+        return end;
+    }
+    s.len() + 1
+}
+
+// The place after KRD.
 pub fn after_krd(s: &[u8], at: usize) -> usize
     ensures { result ≡ after_group krd_tag krd_fields s.now at }
 {
-    let end = after_tag(s, at, tags::KRD);
-    if s.len() < end {
-        return s.len() + 1;
-    }
-    if !is_krd(&s[at + 4..end]) {
-        return s.len() + 1;
-    }
-    end
+    after_inside(s, at, tags::KRD, is_krd)
 }
 
 // The place after SIGNED_DATA, with content or without.
 pub fn after_signed(s: &[u8], at: usize) -> usize
     ensures { result ≡ after_signed s.now at }
 {
-    let end = after_tag(s, at, tags::SIGNED_DATA);
-    if s.len() < end {
-        return s.len() + 1;
-    }
-    if !is_signed_data(&s[at + 4..end]) {
-        return s.len() + 1;
-    }
-    end
+    after_inside(s, at, tags::SIGNED_DATA, is_signed_data)
 }
 
 // The place after USERNAME_AND_KEYHANDLE in a list of names.
 pub fn after_pair(s: &[u8], at: usize) -> usize
     ensures { result ≡ after_group pair_tag pair_fields s.now at }
 {
-    let end = after_tag(s, at, tags::USERNAME_AND_KEYHANDLE);
-    if s.len() < end {
-        return s.len() + 1;
-    }
-    if !is_pair(&s[at + 4..end]) {
-        return s.len() + 1;
-    }
-    end
+    after_inside(s, at, tags::USERNAME_AND_KEYHANDLE, is_pair)
 }
 
 // The place after a stored record.
 pub fn after_record(s: &[u8], at: usize) -> usize
     ensures { result ≡ after_group pair_tag record_fields s.now at }
 {
-    let end = after_tag(s, at, tags::USERNAME_AND_KEYHANDLE);
-    if s.len() < end {
-        return s.len() + 1;
-    }
-    if !is_record(&s[at + 4..end]) {
-        return s.len() + 1;
-    }
-    end
+    after_inside(s, at, tags::USERNAME_AND_KEYHANDLE, is_record)
 }
