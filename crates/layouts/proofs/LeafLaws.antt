@@ -40,9 +40,9 @@ module _ (t : ℕ) (p : List ℕ → Bool) (s : List ℕ) (at : ℕ) where
 
   -- nothing is found where its end, its tag and its value cannot all be as they must
   pub tlv_none : (at + 4 + num_at 2 s (at + 2) ≤ length s → num_at 2 s at ≡ t → p (between s (at + 4) (at + 4 + num_at 2 s (at + 2))) ≡ true → ⊥)
-      → after_tlv t p s at ≡ nowhere s
+      → nowhere s ≡ after_tlv t p s at
   unfolding after_tlv
-  tlv_none f = none_head (head_at s at) refl f
+  tlv_none f = sym (none_head (head_at s at) refl f)
 
   pub tlv_here : {tag len : ℕ} → tag ≡ num_at 2 s at → tag ≡ t → len ≡ num_at 2 s (at + 2) → at + 4 + len ≤ length s
       → p (between s (at + 4) (at + 4 + len)) ≡ true → after_tlv t p s at ≡ at + 4 + len
@@ -73,8 +73,9 @@ module _ (t : ℕ) (p q : List ℕ → Bool) (s : List ℕ) (at : ℕ) {end : �
   -- where nothing passes the first test
   pub more-nowhere : ((v : List ℕ) → q v ≡ true → p v ≡ true) → length s < end → after_tlv t q s at ≡ nowhere s
   more-nowhere f k =
-      tlv_none t q s at
-      (λ h d v. let x : end ≡ at + 4 + num_at 2 s (at + 2) = e ∙ tlv_here t p s at refl d refl h (f _ v) in omega arith)
+      sym
+      (tlv_none t q s at
+      (λ h d v. let x : end ≡ at + 4 + num_at 2 s (at + 2) = e ∙ tlv_here t p s at refl d refl h (f _ v) in omega arith))
 
   -- where something does, b is what the second gives
   pub more_asked : (b : Bool) → end ≤ length s → q (between s (at + 4) end) ≡ b → after_tlv t q s at ≡ cond b end (nowhere s)
@@ -89,7 +90,7 @@ module _ (t m n : ℕ) (s : List ℕ) (at : ℕ) where
       length_part (record { ordered = omega arith; within = h }) ∙ e
 
   pub sized_none : (at + 4 + num_at 2 s (at + 2) ≤ length s → num_at 2 s at ≡ t → m ≤ num_at 2 s (at + 2) → num_at 2 s (at + 2) ≤ n → ⊥)
-      → after_rule (sized t m n) s at ≡ nowhere s
+      → nowhere s ≡ after_rule (sized t m n) s at
   sized_none f =
       tlv_none t (obeys (sized t m n)) s at
       (λ h e v. let len : ℕ = num_at 2 s (at + 2) in
@@ -188,16 +189,16 @@ module _ (s : List ℕ) {a b : ℕ} (ea : a ≡ after_field aaid s 0) (eb : b �
       ∙ rw (rule-nowhere 0x2E0E 5 5 (λ v. eqb (get_or v 2 0) (cond content 2 1)) s a eb h)
       (found_if false (signed_rest content) s b)
 
-  pub signed_none : length s < b → is_signed_data s ≡ false
-  signed_none h = rw (info_none true h, info_none false h)
+  pub signed_none : length s < b → false ≡ is_signed_data s
+  signed_none h = sym (rw (info_none true h, info_none false h))
 
   -- x is the mode
   module _ {x : ℕ} (h : b ≤ length s) (e : x ≡ get_or s (a + 6) 0) where
     by_mode : is_signed_data s ≡ (eqb x 2 && reads_at (signed_rest true) s b || eqb x 1 && reads_at (signed_rest false) s b)
     by_mode = rw (info_mode true h, info_mode false h, ← e)
 
-    pub signed-other : (x ≡ 2 → ⊥) → (x ≡ 1 → ⊥) → is_signed_data s ≡ false
-    signed-other k l = by_mode ∙ simp (ne_eqb x 2 k, ne_eqb x 1 l)
+    pub signed_other : (x ≡ 2 → ⊥) → (x ≡ 1 → ⊥) → false ≡ is_signed_data s
+    signed_other k l = sym (by_mode ∙ simp (ne_eqb x 2 k, ne_eqb x 1 l))
 
     pub signed-mode : 1 ≤ x → x ≤ 2 → is_signed_data s ≡ reads_at (signed_rest (eqb x 2)) s b
     signed-mode k l =

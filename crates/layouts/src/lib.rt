@@ -20,16 +20,11 @@ use tlv::numbers::{get16, get32, get64};
 use utf8::is_utf8;
 
 // The place after a TLV with this tag.
+#[tactic(auto, using(crate::proofs::LeafLaws::tlv_none))]
 fn after_tag(s: &[u8], at: usize, tag: usize) -> usize
     ensures { result ≡ after_tlv tag (λ v. true) s.now at }
 {
-    if s.len() < at {
-        return s.len() + 1;
-    }
-    if s.len() - at < 4 {
-        return s.len() + 1;
-    }
-    if get16(s, at) != tag {
+    if s.len() < at || s.len() - at < 4 || get16(s, at) != tag {
         return s.len() + 1;
     }
     let n = get16(s, at + 2);
@@ -52,29 +47,19 @@ pub fn enter(s: &[u8], at: usize, tag: usize) -> usize
 
 // The place after a field of which only the size is asked. That the least value has room is asked first: the end of a value of one length is then
 // known from its place, before its header is read, and the compiler leaves out the last test.
+#[tactic(auto, using(crate::proofs::LeafLaws::sized_none))]
 pub fn after_sized(s: &[u8], at: usize, size: Size) -> usize
     ensures { result ≡ after_rule (sized size.tag size.least size.most) s.now at }
 {
-    if s.len() < at {
-        return s.len() + 1;
-    }
-    if s.len() - at < 4 {
-        return s.len() + 1;
-    }
-    if s.len() - at - 4 < size.least {
-        return s.len() + 1;
-    }
-    if get16(s, at) != size.tag {
+    if s.len() < at
+        || s.len() - at < 4
+        || s.len() - at - 4 < size.least
+        || get16(s, at) != size.tag
+    {
         return s.len() + 1;
     }
     let len = get16(s, at + 2);
-    if len < size.least {
-        return s.len() + 1;
-    }
-    if size.most < len {
-        return s.len() + 1;
-    }
-    if s.len() - at - 4 < len {
+    if len < size.least || size.most < len || s.len() - at - 4 < len {
         return s.len() + 1;
     }
     at + 4 + len
@@ -166,6 +151,7 @@ fn is_signed_rest(s: &[u8], at: usize, content: bool) -> bool
 
 // Whether a stretch is what SIGNED_DATA holds. The mode, the third byte of its ASSERTION_INFO, tells which of the two layouts it can have: 2 with
 // content, 1 without.
+#[tactic(auto, using(crate::proofs::LeafLaws::signed_none, crate::proofs::LeafLaws::signed_other))]
 fn is_signed_data(s: &[u8]) -> bool
     ensures { result ≡ is_signed_data s.now }
 {
@@ -175,10 +161,7 @@ fn is_signed_data(s: &[u8]) -> bool
         return false;
     }
     let mode = s[a1 + 6];
-    if mode < 1 {
-        return false;
-    }
-    if 2 < mode {
+    if mode < 1 || 2 < mode {
         return false;
     }
     is_signed_rest(s, a2, mode == 2)
