@@ -15,12 +15,13 @@ use lib.Dec.{eqb}
 use mir.Syntax.{w8}
 use mir.Val.{Fits}
 use borrow.Author.Tests.{lt-leb}
+use Rattle.std.specs.Bool.{then_some}
 use Rattle.model.specs.Lists.{all}
 use Rattle.model.specs.Tlv.{Bytes, Tlv, tlv, bytes, tlvs, pair_tag}
 use Rattle.model.specs.Layouts.{matches, reads}
 use Rattle.model.specs.Records as model
 use Rattle.model.specs.Records.{record_ok, max_records, table_ok, record_fields, stored_as, encode, decode}
-use Rattle.model.proofs.Basics.{split, impossible, both, all_append}
+use Rattle.model.proofs.Basics.{split, both, all_append}
 use Rattle.model.proofs.Tlvs.{bytes-append, length-bytes, bytes-tlvs}
 use Rattle.model.proofs.StoredForm.{encode-stored, stored_rules}
 use Rattle.tlv.specs.Heads.{head_at, between}
@@ -64,29 +65,24 @@ module _ {s places : List ℕ} {n : ℕ} (l : Loaded s places n) where
   unfolding table_in
   table-in d = rw d
 
-  index_is : (b : Bool) → decode s ≡ cond b (some l.table) none → table_ok l.table ≡ b
-      → IndexIs s places (record { ok = b; len = n })
+  index_is : (b : Bool) → decode s ≡ cond b (some l.table) none → table_ok l.table ≡ b → IndexIs s places (then_some b n)
   index_is true d o =
       let i = table-in d in
       record {
         within = rw l.room l.few;
         view = rw i d;
-        indexed = λ x. record { whole = rw i l.whole; places-are = rw i l.places-are; ok = rw i o };
+        indexed = record { whole = rw i l.whole; places-are = rw i l.places-are; ok = rw i o };
       }
-  index_is false d o = record { within = rw l.room l.few; view = d; indexed = λ x. impossible cc }
+  index_is false d o = d
 
   -- what the places and the test of these rows give
-  pub loaded_are : (b : Bool) → b ≡ few_distinct s (take n places) → IndexIs s places (record { ok = b; len = n })
+  pub loaded_are : (b : Bool) → b ≡ few_distinct s (take n places) → IndexIs s places (then_some b n)
   loaded_are b e =
       let keys = located_keys s (take n places) l.table all_located in
       let mixed = located_mixed s (take n places) l.table all_located in
       let k : length l.table ≤ max_records = omega (arith, l.few, l.size) in
       let o : table_ok l.table ≡ b = few_decides l.table k l.rules ∙ sym (rw (keys, mixed) at e) in
       index_is b (l.view ∙ rw o) o
-
--- where nothing decodes no index is given
-pub none_are : {s : List ℕ} (places : List ℕ) → decode s ≡ none → IndexIs s places (record { ok = false; len = 0 })
-none_are places d = record { within = omega arith; view = d; indexed = λ x. impossible cc }
 
 -- ---- a table read up to a place
 
