@@ -81,17 +81,12 @@ fn put_counted(out: &mut [u8], table: &[u8], places: &[usize], i: usize, count: 
 }
 
 // Whether the record at a place goes: it has the mixed token and, unless the KeyID is empty, the KeyID.
+#[tactic(auto, unfolding(crate::specs::Stored::record_at))]
 fn is_going(table: &[u8], place: usize, mixed: &[u8], key: &[u8]) -> bool
     requires { Stands table.now place }
     ensures { result ≡ goes mixed.now key.now (record_at table.now place) }
 {
-    if !row_is(table, place + MIXED, mixed) {
-        return false;
-    }
-    if key.len() == 0 {
-        return true;
-    }
-    row_is(table, place + KEY_ID, key)
+    row_is(table, place + MIXED, mixed) && (key.is_empty() || row_is(table, place + KEY_ID, key))
 }
 
 // The number of the first record from i on that goes; if none does, how many there are.
@@ -99,14 +94,12 @@ pub fn next_going(table: &[u8], places: &[usize], i: usize, mixed: &[u8], key: &
     requires { Indexed table.now places.now × (i ≤ length places.now) }
     ensures { result ≡ i + stay_first mixed.now key.now (drop i (table_in table.now)) }
 {
-    let mut j = i;
-    while j < places.len() {
+    for j in i..places.len() {
         if is_going(table, places[j], mixed, key) {
             return j;
         }
-        j += 1;
     }
-    j
+    places.len()
 }
 
 // Where record j starts; where the table ends, if there are no more.
