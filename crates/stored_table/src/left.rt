@@ -113,16 +113,6 @@ fn start_of(table: &[u8], places: &[usize], j: usize) -> usize
     table.len()
 }
 
-// The stored form of the records from i up to j.
-fn stored_from<'a>(table: &'a [u8], places: &[usize], i: usize, j: usize) -> &'a [u8]
-    requires { Indexed table.now places.now × (i ≤ j) }
-    ensures { result.now ≡ encode (take (j - i) (drop i (table_in table.now))) }
-{
-    let from = start_of(table, places, i);
-    let to = start_of(table, places, j);
-    &table[from..to]
-}
-
 // The table without the record of a mixed token that has this KeyID or, if the KeyID is empty, without all of the mixed token's. The rest keeps its
 // order and closes the gap: what stands between two records that go is written at once.
 pub fn put_removed(
@@ -137,13 +127,14 @@ pub fn put_removed(
         result out.new result }
 {
     let mut end = 0;
-    let mut i = 0;
-    while i < places.len() {
-        let j = next_going(table, places, i, mixed, key);
-        end = put_bytes(out, end, stored_from(table, places, i, j));
-        i = j + 1;
+    let mut from = 0;
+    for (i, place) in places.iter().enumerate() {
+        if is_going(table, *place, mixed, key) {
+            end = put_bytes(out, end, &table[from..*place]);
+            from = start_of(table, places, i + 1);
+        }
     }
-    end
+    put_bytes(out, end, &table[from..])
 }
 
 // Writes the stored form of the table that a change leaves. The change is that of a command s, lent this mixed token and this KeyID.
