@@ -103,6 +103,7 @@ pub fn next_going(table: &[u8], places: &[usize], i: usize, mixed: &[u8], key: &
 }
 
 // Where record j starts; where the table ends, if there are no more.
+#[tactic(auto, using(crate::proofs::IndexLaws::place_is, crate::proofs::LeftLaws::end_is))]
 fn start_of(table: &[u8], places: &[usize], j: usize) -> usize
     requires { Indexed table.now places.now }
     ensures { result ≡ length (encode (take j (table_in table.now))) }

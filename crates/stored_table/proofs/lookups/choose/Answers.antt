@@ -7,9 +7,8 @@ use Rattle.stored_table.proofs.lookups.choose.Goals.{then-is_chosen, else-is_cho
 pub loop-i-init : goal.loop-i-init
 loop-i-init c = choosing _ _ _ _ c.requires.chosen_len
 
-pub is_chosen-requires : goal.is_chosen-requires
-is_chosen-requires c =
-    record { stands = (all_stand c.requires.indexed).each _ c.loop-i-test.true; within = c.requires.within }
+pub is_chosen-requires-clause-stands : goal.is_chosen-requires-clause-stands
+is_chosen-requires-clause-stands c = (all_stand c.requires.indexed).each _ c.loop-i-test.true
 
 pub bounds-chosen-len : goal.bounds-chosen-len
 bounds-chosen-len c =
