@@ -155,8 +155,8 @@ module _ {table places : List ℕ} (x : Indexed table places) where
     stored-starts = omega (arith, up-to)
 
   -- none ends past the table
-  pub stored-ends : (j : ℕ) → length (encode (take j (table_in table))) ≤ length table
-  stored-ends j =
+  pub stored_ends : (j : ℕ) → length (encode (take j (table_in table))) ≤ length table
+  stored_ends j =
       let t = table_in table in
       let e : length table ≡ length (encode (take j t)) + length (encode (drop j t)) =
       ap length (sym x.whole ∙ ap encode (sym (take-append-drop j t)) ∙ encode-append (take j t) (drop j t))
@@ -214,7 +214,7 @@ module _ (m key : List ℕ) {table places : List ℕ} (x : Indexed table places)
     removing-room {n} h =
         let t = table_in table in
         let run : List ℕ = take (length (encode (take i t)) - from) (drop from table) in
-        rw h (omega (arith, p.wrote.size, ap length p.stay, length-append p.written run, staying_most m key (take i t), stored-ends x i))
+        rw h (omega (arith, p.wrote.size, ap length p.stay, length-append p.written run, staying_most m key (take i t), stored_ends x i))
 
     -- the run was written
     removing-put : {n : ℕ} {d₂ : List ℕ} {e₂ : ℕ} → Wrote d₁ e (take (length (encode (take i (table_in table))) - from) (drop from table)) n d₂ e₂

@@ -36,6 +36,5 @@ pub fn index_of(table: &[u8], places: &mut [usize; MAX_RECORDS]) -> Option<usize
         len += 1;
         at = end;
     }
-    let all = &places[..];
-    obeys(table, &all[..len]).then_some(len)
+    obeys(table, &places[..len]).then_some(len)
 }

@@ -116,6 +116,7 @@ fn start_of(table: &[u8], places: &[usize], j: usize) -> usize
 
 // The table without the record of a mixed token that has this KeyID or, if the KeyID is empty, without all of the mixed token's. The rest keeps its
 // order and closes the gap: what stands between two records that go is written at once.
+#[tactic(auto, using(crate::proofs::IndexLaws::place_is, crate::proofs::LeftLaws::stored_ends, crate::proofs::LeftLaws::end_is))]
 pub fn put_removed(
     out: &mut [u8],
     table: &[u8],

@@ -1,6 +1,6 @@
 use native.Mathlib.Omega.{arith}
 use Rattle.stored_table.proofs.IndexLaws.{record-at, place_is}
-use Rattle.stored_table.proofs.LeftLaws.{removing_none, removing-room, removing-stays, removing-goes, removing-all, end_is, stored-ends}
+use Rattle.stored_table.proofs.LeftLaws.{removing_none, removing-room, removing-stays, removing-goes, removing-all, end_is, stored_ends}
 use Rattle.stored_table.proofs.left.put_removed.Goals as goal
 use Rattle.stored_table.proofs.left.put_removed.Goals.{then-is_going, else-is_going}
 
@@ -10,16 +10,9 @@ loop-i-init c = removing_none _ _ c.requires.0 _
 pub is_going-requires : goal.is_going-requires
 is_going-requires c = (record-at c.requires.0 c.loop-i.i (omega arith)).stands
 
-pub slice_bounds-put_bytes-count : goal.slice_bounds-put_bytes-count
-slice_bounds-put_bytes-count c = omega (arith, c.loop-i.invariant.within, place_is c.requires.0 c.loop-i.i (omega arith))
-
-pub slice_bounds-put_bytes-start : goal.slice_bounds-put_bytes-start
-slice_bounds-put_bytes-start c =
-    omega (arith, c.loop-i.invariant.within, place_is c.requires.0 c.loop-i.i (omega arith), stored-ends c.requires.0 c.loop-i.i)
-
 pub slice_bounds-put_bytes-end : goal.slice_bounds-put_bytes-end
 slice_bounds-put_bytes-end c =
-    omega (arith, place_is c.requires.0 c.loop-i.i (omega arith), stored-ends c.requires.0 c.loop-i.i)
+    omega (arith, place_is c.requires.0 c.loop-i.i (omega arith), stored_ends c.requires.0 c.loop-i.i)
 
 pub put_bytes-end-requires : goal.put_bytes-end-requires
 put_bytes-end-requires c =
@@ -31,15 +24,11 @@ loop-i-preserved c =
     let h = c.loop-i-test.true in
     elim c.if-is_going.branch [
       | then-is_going w ↦
-          rw (w.out-is, w.end-is, w.from-is) (removing-goes _ _ x c.loop-i.invariant h c.is_going.ensures w.if-is_going.true w.put_bytes-end.ensures w.start_of-from.ensures)
+          let goes = w.if-is_going.true in
+          rw (w.out-is, w.end-is, w.from-is)
+          (removing-goes _ _ x c.loop-i.invariant h c.is_going.ensures goes w.put_bytes-end.ensures w.start_of-from.ensures)
       | else-is_going w ↦ rw (w.out-is, w.end-is, w.from-is) (removing-stays _ _ x c.loop-i.invariant h c.is_going.ensures w.if-is_going.false)
     ]
-
-pub slice_bounds-put_bytes-count-2 : goal.slice_bounds-put_bytes-count-2
-slice_bounds-put_bytes-count-2 c = omega (arith, c.loop-i.invariant.within, stored-ends c.requires.0 c.loop-i.i)
-
-pub slice_bounds-put_bytes-start-2 : goal.slice_bounds-put_bytes-start-2
-slice_bounds-put_bytes-start-2 c = omega (arith, c.loop-i.invariant.within, stored-ends c.requires.0 c.loop-i.i)
 
 pub put_bytes-requires : goal.put_bytes-requires
 put_bytes-requires c =

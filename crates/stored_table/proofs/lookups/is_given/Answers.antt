@@ -25,5 +25,7 @@ pub returns-else-is_empty : goal.returns-else-is_empty
 returns-else-is_empty c =
     let a = c.args in
     let key = row a.place a.table.now in
-    let found = any_from_yields_List (λ h. eq_bytes key (row h a.s.now)) _ _ c.any.result c.any.ensures.ran (YieldsList-from_slice a.handles.now cc) (λ x b q k. search (rules, tests)) in
+    let found =
+    any_from_yields_List (λ h. eq_bytes key (row h a.s.now)) _ _ c.any.result c.any.ensures.ran (YieldsList-from_slice a.handles.now cc)
+    (λ x b q k. search (rules, tests)) in
     found ∙ sym (given_any key a.s.now a.handles.now ∙ rw (← c.is_empty.ensures, c.if-is_empty.false))
