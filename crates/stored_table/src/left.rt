@@ -108,10 +108,7 @@ fn start_of(table: &[u8], places: &[usize], j: usize) -> usize
     requires { Indexed table.now places.now }
     ensures { result ≡ length (encode (take j (table_in table.now))) }
 {
-    if j < places.len() {
-        return places[j];
-    }
-    table.len()
+    places.get(j).copied().unwrap_or(table.len())
 }
 
 // The table without the record of a mixed token that has this KeyID or, if the KeyID is empty, without all of the mixed token's. The rest keeps its
