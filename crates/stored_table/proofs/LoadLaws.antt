@@ -128,7 +128,8 @@ pub record Loading (s places : List ℕ) (n place : ℕ) : Type 0 where
   pub run : List Tlv
   pub count : length run ≡ n
   pub passed : length (bytes run) ≡ place
-  pub places-are : length places ≡ 32 → take n places ≡ tlv_starts 0 run
+  pub room : length places ≡ 32
+  pub places-are : take n places ≡ tlv_starts 0 run
   pub match : all is_stored run ≡ true
   pub rest : tlvs s ≡ ahead run (tlvs (drop place s))
 
@@ -136,34 +137,35 @@ ahead_none : (o : Option (List Tlv)) → o ≡ ahead [] o
 ahead_none none = refl
 ahead_none (some us) = refl
 
-pub loading : (s places : List ℕ) → Loading s places 0 0
+pub loading : (s places : List ℕ) → length places ≡ 32 → Loading s places 0 0
 unfolding bytes
-loading s places =
+loading s places e =
     record {
       few = omega arith;
       within = omega arith;
       run = [];
       count = refl;
       passed = refl;
-      places-are = λ e. refl;
+      room = e;
+      places-are = refl;
       match = refl;
       rest = ahead_none (tlvs s);
     }
 
 module _ {s places : List ℕ} {n place : ℕ} (p : Loading s places n place) where
   -- of a slice of bytes
-  pub load-end : length places ≡ 32 → ((i : ℕ) → Fits w8 (get_or s i 0)) → length s ≤ place → Loaded s places n
+  pub load-end : ((i : ℕ) → Fits w8 (get_or s i 0)) → length s ≤ place → Loaded s places n
   unfolding decode bind
-  load-end e f h =
+  load-end f h =
       let r : tlvs s ≡ some p.run = p.rest ∙ rw (run_end s place (head_end s place h)) (ap some (append-nil p.run)) in
       let q = bytes-tlvs s p.run (slice_bytes s f) r in
       record {
         few = p.few;
-        room = e;
+        room = p.room;
         table = map stored_as p.run;
         size = rw length-map p.count;
         whole = encode-stored p.run q.held p.match ∙ q.written;
-        places-are = p.places-are e ∙ run-starts 0 p.run q.held p.match;
+        places-are = p.places-are ∙ run-starts 0 p.run q.held p.match;
         rules = stored_rules p.run q.held p.match;
         view = rw (r, p.match);
       }
@@ -218,8 +220,8 @@ module _ {s places : List ℕ} {n place : ℕ} (p : Loading s places n place) wh
             run = more c;
             count = rw length-append (omega (arith, p.count));
             passed = rw (bytes-append p.run (c ∷ []), length-append) (omega (arith, p.passed, length-bytes c [], i));
-            places-are = λ x. let size : length places ≡ 32 = rw length-set at x in
-                rw (add-one, take-suc-set places n place (rw size few), p.places-are size, starts_more, p.passed, zero-add);
+            room = rw length-set p.room;
+            places-are = rw (add-one, take-suc-set places n place (rw p.room few), p.places-are, starts_more, p.passed, zero-add);
             match = all_append is_stored p.run (c ∷ []) p.match (both (stored_is pair_tag v ∙ g.1) refl);
             rest = rest_more i;
           }

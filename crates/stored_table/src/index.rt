@@ -22,6 +22,8 @@ pub fn index_of(table: &[u8], places: &mut [usize; MAX_RECORDS]) -> Option<usize
 {
     let mut len = 0;
     let mut at = 0;
+
+    // A turn goes to where the record that it read ends: no range or iterator says the places in advance.
     while at < table.len() {
         if len == MAX_RECORDS {
             return None;
@@ -34,6 +36,5 @@ pub fn index_of(table: &[u8], places: &mut [usize; MAX_RECORDS]) -> Option<usize
         len += 1;
         at = end;
     }
-    let all = &places[..];
-    obeys(table, &all[..len]).then_some(len)
+    obeys(table, &places[..len]).then_some(len)
 }
