@@ -142,17 +142,10 @@ pub fn slot_fits(slot: usize, v: &[u8]) -> bool
     if !allows(size_of(slot), v.len()) {
         return false;
     }
-    if slot == INDEX {
-        return v[0] == 0;
+    match slot {
+        INDEX => v[0] == 0,
+        USERNAME => is_utf8(v),
+        KEY_ID => v.is_empty() || v.len() == 32,
+        _ => true,
     }
-    if slot == USERNAME {
-        return is_utf8(v);
-    }
-    if slot == KEY_ID {
-        if v.len() == 0 {
-            return true;
-        }
-        return v.len() == 32;
-    }
-    true
 }

@@ -62,7 +62,7 @@ returns-then-not-is_taken c =
       answers = λ s short whole e. let f = whole_follows s _ whole e in
           read_broken
           (broken-refused (c.loop-times.invariant.1 _ s (listing-is _ c.listed-listing.ensures) f) whole (past-tlv f i)
-          c.slot_of-slot.ensures (most-is _ _ c.listed-listing.ensures) (past_value f i) c.is_taken.ensures c.if-not-is_taken.true-raw)
+          c.slot_of-slot.ensures (most-is _ _ c.listed-listing.ensures) (past_value f i) c.is_taken.ensures c.if-not-is_taken.true)
           c.no_params-then-not-is_taken.ensures;
     }
 
@@ -70,7 +70,7 @@ returns-then-not-is_taken c =
 placed : (c : Then-at_most-gt0) → let n = get_or c.loop-times.times c.slot_of-slot.result 0 in
     (n < 8) × (c.slot_of-slot.result < slots)
 placed c =
-    taken_place _ _ _ c.slot_of-slot.ensures (most-is _ _ c.listed-listing.ensures) c.is_taken.ensures c.if-not-is_taken.false-raw
+    taken_place _ _ _ c.slot_of-slot.ensures (most-is _ _ c.listed-listing.ensures) c.is_taken.ensures c.if-not-is_taken.false
     c.if-at_most-gt0.true
 
 pub loop-times-preserved-after-slot-eq-KEY_HANDLE : goal.loop-times-preserved-after-slot-eq-KEY_HANDLE
@@ -83,14 +83,14 @@ loop-times-preserved-after-slot-eq-KEY_HANDLE c =
         rw (w.handles-is, length-set) so_far.0,
         λ k s m f. rw (w.handles-is, w.first-is)
             (noted-handle (past-tlv f i) (so_far.1 k s m f) c.slot_of-slot.ensures
-            (ap (λ (r : List ℕ). get_or r c.slot_of-slot.result 0) m) (past_value f i) c.is_taken.ensures c.if-not-is_taken.false-raw
+            (ap (λ (r : List ℕ). get_or r c.slot_of-slot.result 0) m) (past_value f i) c.is_taken.ensures c.if-not-is_taken.false
             some w.if-slot-eq-KEY_HANDLE.true),
       )
       | else-slot-eq-KEY_HANDLE w ↦ (
         rw w.handles-is so_far.0,
         λ k s m f. rw (w.handles-is, w.first-is)
             (noted-first (past-tlv f i) (so_far.1 k s m f) c.slot_of-slot.ensures
-            (ap (λ (r : List ℕ). get_or r c.slot_of-slot.result 0) m) (past_value f i) c.is_taken.ensures c.if-not-is_taken.false-raw
+            (ap (λ (r : List ℕ). get_or r c.slot_of-slot.result 0) m) (past_value f i) c.is_taken.ensures c.if-not-is_taken.false
             some w.if-slot-eq-KEY_HANDLE.false),
       )
     ]
@@ -101,7 +101,7 @@ loop-times-preserved c =
       c.loop-times.invariant.0,
       λ k s m f. noted_skip (past-tlv f i) (c.loop-times.invariant.1 k s m f) c.slot_of-slot.ensures
           (ap (λ (r : List ℕ). get_or r c.slot_of-slot.result 0) m) (past_value f i) c.is_taken.ensures
-          c.if-not-is_taken.false-raw (omega (arith, c.if-at_most-gt0.false)),
+          c.if-not-is_taken.false (omega (arith, c.if-at_most-gt0.false)),
     )
 
 pub bounds-times-slot : goal.bounds-times-slot
