@@ -58,15 +58,14 @@ pub record Noted (k : Kind) (s times : List ℕ) (first : List Span) (handles : 
   pub firsts : (j : ℕ) → j < 9 → FirstAt s (values_of (slot_field j) held) (get_or first j no_span)
   pub rows_are : RowsAt s (values_of key_handle held) (get_or times 9 0) handles
 
--- whichever the command is, if these are its numbers and it has this child run, in which a place is reached
-abbrev pub NotedBy : (most run times : List ℕ) → List Span → (handles : List ℕ) → ℕ → Type 0
-NotedBy most run times first handles at =
-    (k : Kind) (s : List ℕ) → most ≡ by_slot (most_for k) → Follows s run → Noted k s times first handles (4 + at)
+-- whichever command of the kind has this child run, in which a place is reached
+abbrev pub NotedBy : Kind → (run times : List ℕ) → List Span → (handles : List ℕ) → ℕ → Type 0
+NotedBy k run times first handles at = (s : List ℕ) → Follows s run → Noted k s times first handles (4 + at)
 
-pub noted_none : (most run handles : List ℕ) → length handles ≡ 8
-    → NotedBy most run (replicate (suc slots) 0) (replicate 9 no_span) handles 0
+pub noted_none : (k : Kind) (run handles : List ℕ) → length handles ≡ 8
+    → NotedBy k run (replicate (suc slots) 0) (replicate 9 no_span) handles 0
 unfolding rows
-noted_none most run handles e k s m f =
+noted_none k run handles e s f =
     record {
       held = [];
       walked = walked_none s;

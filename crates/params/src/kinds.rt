@@ -35,7 +35,8 @@ pub fn kind_of(s: &[u8]) -> Option<Kind>
     }
 }
 
-// The fields that commands list have slots, numbered in an order that every command's list keeps.
+// The fields that commands list have slots, numbered in an order that every command's list keeps. They are numbers and no enum, since they index the
+// arrays of a listing, and since `slot_fits` promises its answer for every number.
 pub const INDEX: usize = 0;
 
 pub const APP_ID: usize = 1;
