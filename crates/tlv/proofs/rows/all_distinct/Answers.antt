@@ -1,10 +1,7 @@
--- `all_distinct` goes by whether each row stands there at most once.
-use mathlib.Core.Path.{◌∙◌}
-use Rattle.tlv.proofs.RowLaws.{few-all, few-distinct}
+-- No two rows are the same where each stands there at most once.
+use Rattle.std.proofs.Common.{◌∙◌}
+use Rattle.tlv.proofs.RowLaws.{few-distinct}
 use Rattle.tlv.proofs.rows.all_distinct.Goals as goal
 
-pub returns-then-places-le1 : goal.returns-then-places-le1
-returns-then-places-le1 c = let a = c.args in few-all a.off a.places.now a.s.now 1 c.if-places-le1.true ∙ few-distinct _
-
 pub returns : goal.returns
-returns c = c.few_among.ensures ∙ few-distinct _
+returns c = c.each_few.ensures ∙ few-distinct _
