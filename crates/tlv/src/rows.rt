@@ -179,14 +179,6 @@ impl<'a> Rows<'a> {
             self.few_by_rows(most)
         }
     }
-
-    // The same. Nothing is called where there are no more rows than that: `few_among`, which two functions call, stays a function of its own, and these
-    // two become parts of their callers.
-    fn each_few(&self, most: usize) -> bool
-        ensures { result ≡ each_few most (rows_of self.now) }
-    {
-        self.places.len() <= most || self.few_among(most)
-    }
 }
 
 // How many of the rows from a place on are v.
@@ -216,17 +208,14 @@ pub fn is_among(s: &[u8], places: &[usize], off: usize, v: &[u8]) -> bool
         != 0
 }
 
-// Whether each row stands there at most `most` times.
+// Whether each row stands there at most `most` times. Nothing is called where there are no more rows than that: `few_among`, which two functions call,
+// stays a function of its own, and these two become parts of their callers.
 pub fn each_few(s: &[u8], places: &[usize], off: usize, most: usize) -> bool
     requires { Within off places.now s.now }
     ensures { result ≡ each_few most (rows off places.now s.now) }
 {
-    Rows {
-        stretch: s,
-        places,
-        off,
-    }
-    .each_few(most)
+    let rows = Rows { stretch: s, places, off };
+    places.len() <= most || rows.few_among(most)
 }
 
 // Whether no two rows are the same: each stands there at most once.
@@ -234,10 +223,6 @@ pub fn all_distinct(s: &[u8], places: &[usize], off: usize) -> bool
     requires { Within off places.now s.now }
     ensures { result ≡ distinct (rows off places.now s.now) }
 {
-    Rows {
-        stretch: s,
-        places,
-        off,
-    }
-    .each_few(1)
+    let rows = Rows { stretch: s, places, off };
+    places.len() <= 1 || rows.few_among(1)
 }
