@@ -1,11 +1,10 @@
 use mathlib.Core.Path.{refl, sym, ◌∙◌}
-use Prim.Native.Nat.{◌+◌, ◌-◌}
+use Prim.Native.Nat.{◌-◌}
 use native.Mathlib.Omega.{arith}
 use lib.ListN.{length}
 use Rattle.utf8.specs.Places.{each, stands_at}
 use Rattle.utf8.proofs.WindowLaws.{k_more, k_wrong, k_last}
 use Rattle.utf8.proofs.middle.Goals as goal
-use Rattle.utf8.proofs.middle.Goals.{else-loop-at-test, then-loop-at-test+else-not-window+else-last-at-gt16}
 
 pub loop-at-init : goal.loop-at-init
 unfolding each
@@ -24,10 +23,4 @@ loop-at-preserved c =
 pub returns : goal.returns
 returns c =
     let s = c.args.s.now in
-    let at = c.loop-at.at in
-    elim c.loop-at-test.branch [
-      | else-loop-at-test w ↦ c.window-2.ensures ∙ k_last (stands_at s) 16 (length s - 19) at (length s - 3) (omega arith) (omega arith) c.loop-at.invariant.1
-      | then-loop-at-test+else-not-window+else-last-at-gt16 w ↦
-          c.window-2.ensures ∙ k_last (stands_at s) 16 (length s - 19) (at + 16) (length s - 3) (omega arith) (omega arith)
-          (k_more (stands_at s) 16 at c.loop-at.invariant.1 (sym w.window.ensures ∙ w.if-not-window.false))
-    ]
+    c.window-2.ensures ∙ k_last (stands_at s) 16 (length s - 19) c.loop-at.at (length s - 3) (omega arith) (omega arith) c.loop-at.invariant.1
