@@ -25,30 +25,7 @@ struct Columns<'a> {
     count: usize,
 }
 
-impl<'a> Columns<'a> {
-    // With no field yet.
-    fn new(
-        tags: &'a mut [usize; MOST_FIELDS],
-        places: &'a mut [usize; MOST_FIELDS],
-        lengths: &'a mut [usize; MOST_FIELDS],
-    ) -> Columns<'a>
-        ensures same_tags { result.tags.ghost_name ≡ tags.entry.ghost_name }
-        ensures same_places { result.places.ghost_name ≡ places.entry.ghost_name }
-        ensures same_lengths { result.lengths.ghost_name ≡ lengths.entry.ghost_name }
-        ensures none { held result ≡ parts_of [] }
-        ensures counted { result.count ≡ 0 }
-    {
-        *tags = [0; MOST_FIELDS];
-        *places = [0; MOST_FIELDS];
-        *lengths = [0; MOST_FIELDS];
-        Columns {
-            tags,
-            places,
-            lengths,
-            count: 0,
-        }
-    }
-
+impl Columns<'_> {
     // A field more.
     fn push(&mut self, tag: usize, place: usize, len: usize)
         requires { self.old.count < 17 }
@@ -202,7 +179,15 @@ pub fn read_fields(
     if !is_response(s) {
         return Err(Refusal::NotWritten);
     }
-    let mut columns = Columns::new(tags, places, lengths);
+    *tags = [0; MOST_FIELDS];
+    *places = [0; MOST_FIELDS];
+    *lengths = [0; MOST_FIELDS];
+    let mut columns = Columns {
+        tags,
+        places,
+        lengths,
+        count: 0,
+    };
     list_fields(s, &mut columns);
     Ok(Reading {
         tag: get16(s, 0),
