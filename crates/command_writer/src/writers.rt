@@ -5,7 +5,9 @@ ghost use Rattle.model.specs.Writer.{Wanted, wanted_kind, command, write_command
 ghost use Rattle.tlv.specs.Writing.{Wrote};
 ghost use Rattle.fields.specs.Refusals.{ended, ends};
 ghost use Rattle.command_writer.specs.Lengths.{Counts};
-ghost use Rattle.command_writer.specs.Fields.{wanted_register, register_size, register_children, wanted_sign, sign_size, sign_children, wanted_deregister, deregister_size, deregister_children};
+ghost use Rattle.command_writer.specs.Fields.{wanted_register, register_size, register_children};
+ghost use Rattle.command_writer.specs.Fields.{wanted_sign, sign_size, sign_children};
+ghost use Rattle.command_writer.specs.Fields.{wanted_deregister, deregister_size, deregister_children};
 
 use crate::lengths::{HEADER, HEADER_AND_INDEX, check_len, handles_len, one_len, type_len};
 use crate::marked::Marked;
