@@ -214,7 +214,11 @@ pub fn each_few(s: &[u8], places: &[usize], off: usize, most: usize) -> bool
     requires { Within off places.now s.now }
     ensures { result ≡ each_few most (rows off places.now s.now) }
 {
-    let rows = Rows { stretch: s, places, off };
+    let rows = Rows {
+        stretch: s,
+        places,
+        off,
+    };
     places.len() <= most || rows.few_among(most)
 }
 
@@ -223,6 +227,10 @@ pub fn all_distinct(s: &[u8], places: &[usize], off: usize) -> bool
     requires { Within off places.now s.now }
     ensures { result ≡ distinct (rows off places.now s.now) }
 {
-    let rows = Rows { stretch: s, places, off };
+    let rows = Rows {
+        stretch: s,
+        places,
+        off,
+    };
     places.len() <= 1 || rows.few_among(1)
 }

@@ -3,7 +3,7 @@ use native.Mathlib.Omega.{arith}
 use Rattle.model.specs.Tlv.{deregister}
 use Rattle.tlv.proofs.WriteLaws.{then_run}
 use Rattle.command_writer.proofs.PartLaws.{opened}
-use Rattle.command_writer.proofs.writers.Deregister.put.Goals as goal
+use Rattle.command_writer.proofs.writers.DeregisterCommand.put.Goals as goal
 
 pub returns : goal.returns
 returns c =

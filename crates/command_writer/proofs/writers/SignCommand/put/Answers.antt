@@ -3,11 +3,7 @@ use native.Mathlib.Omega.{arith}
 use Rattle.model.specs.Tlv.{sign}
 use Rattle.tlv.proofs.WriteLaws.{then_run}
 use Rattle.command_writer.proofs.PartLaws.{opened}
-use Rattle.command_writer.proofs.writers.Sign.put.Goals as goal
-
-pub put_handles-requires : goal.put_handles-requires
-put_handles-requires c =
-    (c.requires.whole, omega arith)
+use Rattle.command_writer.proofs.writers.SignCommand.put.Goals as goal
 
 pub returns : goal.returns
 returns c =
