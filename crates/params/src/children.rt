@@ -25,6 +25,7 @@ fn is_skippable(tag: usize, v: &[u8]) -> bool
 
 // Whether one more child is taken of a slot that was given n times and may be given `most` times: one that the command does not list may be
 // skipped; one that it lists is not too many, and obeys its field's rule.
+#[tactic(auto, unfolding(crate::specs::Children::child_taken))]
 pub fn is_taken(tag: usize, v: &[u8], slot: usize, n: u8, most: u8) -> bool
     ensures { result ≡ child_taken slot most n (tlv tag v.now) }
 {
