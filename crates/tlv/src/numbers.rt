@@ -1,4 +1,4 @@
-ghost use Rattle.std.specs.Prelude.{◌≡◌, ◌+◌, ◌≤◌, ◌<◌, [], ◌∷◌, length};
+ghost use Rattle.std.specs.Prelude.{◌≡◌, ◌+◌, ◌≤◌, ◌<◌, [], ◌∷◌, length, take, drop};
 ghost use Rattle.model.specs.Tlv.{le};
 ghost use Rattle.tlv.specs.Numbers.{NumberAt};
 ghost use Rattle.tlv.specs.Writing.{Wrote};
@@ -7,7 +7,17 @@ ghost use Rattle.tlv.specs.Writing.{Wrote};
 pub fn wide(x: u8) -> usize
     ensures { (result ≡ x) × (result < 256) }
 {
-    x as usize
+    usize::from(x)
+}
+
+// The W bytes at a place.
+fn bytes_at<const W: usize>(s: &[u8], at: usize) -> [u8; W]
+    requires { at + W ≤ length s.now }
+    ensures { result ≡ take W (drop at s.now) }
+{
+    let mut b = [0; W];
+    b.copy_from_slice(&s[at..at + W]);
+    b
 }
 
 // The 16-bit number at a place.
@@ -15,7 +25,7 @@ pub fn get16(s: &[u8], at: usize) -> usize
     requires { at + 2 ≤ length s.now }
     ensures { NumberAt 2 s.now at result }
 {
-    wide(s[at]) + 256 * wide(s[at + 1])
+    usize::from(u16::from_le_bytes(bytes_at(s, at)))
 }
 
 // The 32-bit number at a place.
@@ -23,7 +33,7 @@ pub fn get32(s: &[u8], at: usize) -> usize
     requires { at + 4 ≤ length s.now }
     ensures { NumberAt 4 s.now at result }
 {
-    get16(s, at) + 65536 * get16(s, at + 2)
+    u32::from_le_bytes(bytes_at(s, at)) as usize
 }
 
 // The 64-bit number at a place.
@@ -31,7 +41,7 @@ pub fn get64(s: &[u8], at: usize) -> usize
     requires { at + 8 ≤ length s.now }
     ensures { NumberAt 8 s.now at result }
 {
-    get32(s, at) + 4294967296 * get32(s, at + 4)
+    usize::from_le_bytes(bytes_at(s, at))
 }
 
 // The two lowest bytes of a length or a tag, the lowest first: the one place that splits a number into bytes. By a shift and masks, since division is
