@@ -16,7 +16,7 @@ use Rattle.tlv.specs.Writing.{Wrote}
 use Rattle.tlv.proofs.WriteLaws.{then, then_run, then_value, same, wrote_none}
 use Rattle.stored_table.specs.Stored.{no_record, name_size, record_at, Stands, Indexed, table_in}
 use Rattle.stored_table.specs.Chosen.{ChosenOf, records_at}
-use Rattle.stored_table.proofs.IndexLaws.{RecordIs, name-length, key_length, record-at, length-places}
+use Rattle.stored_table.proofs.IndexLaws.{RecordIs, name-length, key_length, record-at, length-places, few-places}
 use Rattle.replies.specs.Writes.{pairs_of}
 use Rattle.replies.specs.Replies.{pairs_size}
 
@@ -65,7 +65,7 @@ module _ (t : model.Table) (is : List ℕ) (i : ℕ) (h : i < length is) where
 
   -- one record more: its pair is counted, and written
   module _ {table : List ℕ} {place : ℕ} (e : RecordIs table place (get_or t (get_or is i 0) no_record)) where
-    pub size-more : pairs_size (records_at t (take (i + 1) is)) ≡ pairs_size (records_at t (take i is)) + (44 + name_size table place)
+    size-more : pairs_size (records_at t (take (i + 1) is)) ≡ pairs_size (records_at t (take i is)) + (44 + name_size table place)
     size-more = rw records-more (omega (arith, e.size, size-append (records_at t (take i is)) (next ∷ [])))
 
     pub pairs-more : {d d₁ d₂ : List ℕ} {at e₁ e₂ : ℕ}
@@ -78,7 +78,7 @@ module _ (t : model.Table) (is : List ℕ) (i : ℕ) (h : i < length is) where
 -- ---- how many bytes they take
 
 -- no more than those of more records
-pub size-part : (t : model.Table) (is : List ℕ) (i : ℕ) → i ≤ length is → pairs_size (records_at t (take i is)) ≤ pairs_size (records_at t is)
+size-part : (t : model.Table) (is : List ℕ) (i : ℕ) → i ≤ length is → pairs_size (records_at t (take i is)) ≤ pairs_size (records_at t is)
 size-part t is zero h = omega arith
 size-part t [] (suc i) h = omega arith
 size-part t (j ∷ is) (suc i) h = omega (arith, size-part t is i (omega arith))
@@ -111,10 +111,23 @@ module _ {table places : List ℕ} (x : Indexed table places) {named : List ℕ}
   pub named-most : pairs_size (records_at (table_in table) named) ≤ 1376
   named-most = omega (arith, (sized (table_in table) x.ok named o.each).most, o.few)
 
-  module _ (i : ℕ) (h : i < length named) where
-    -- there is a record of this number, and it stands at its place
-    pub named-place : get_or named i 0 < length places
-    named-place = omega (arith, o.each i h, length-places x)
+  -- the next of them: there is a record of its number, which stands at its place, and its pair has room beside those before it
+  pub record Next (i place : ℕ) : Type 0 where
+    pub within : get_or named i 0 < length places
+    pub near : get_or named i 0 < 32
+    pub is : RecordIs table place (get_or (table_in table) (get_or named i 0) no_record)
+    pub counted : pairs_size (records_at (table_in table) (take (i + 1) named))
+        ≡ pairs_size (records_at (table_in table) (take i named)) + (44 + name_size table place)
+    pub room : pairs_size (records_at (table_in table) (take (i + 1) named)) ≤ pairs_size (records_at (table_in table) named)
 
-    pub named-there : let j = get_or named i 0 in RecordIs table (get_or places j 0) (get_or (table_in table) j no_record)
-    named-there = record-at x _ named-place
+  pub next_named : (i : ℕ) → i < length named → Next i (get_or places (get_or named i 0) 0)
+  next_named i h =
+      let w : get_or named i 0 < length places = omega (arith, o.each i h, length-places x) in
+      let there = record-at x _ w in
+      record {
+        within = w;
+        near = omega (arith, w, few-places x);
+        is = there;
+        counted = size-more (table_in table) named i h there;
+        room = size-part (table_in table) named (i + 1) (omega (arith, h));
+      }

@@ -23,11 +23,8 @@ pub fn pairs_len(table: &[u8], places: &[usize], named: &[usize]) -> usize
     ensures { result ≡ pairs_size (records_at (table_in table.now) named.now) }
 {
     let mut len = 0;
-    let mut i = 0;
-    while i < named.len() {
-        let record = named[i];
+    for &record in named {
         len += BESIDE_NAME + name_len(table, places[record]);
-        i += 1;
     }
     len
 }
@@ -56,11 +53,8 @@ fn put_pairs(out: &mut [u8], at: usize, table: &[u8], places: &[usize], named: &
         (pairs_size (records_at (table_in table.now) named.now)) out.new result }
 {
     let mut end = at;
-    let mut i = 0;
-    while i < named.len() {
-        let record = named[i];
+    for &record in named {
         end = put_pair(out, end, table, places[record]);
-        i += 1;
     }
     end
 }

@@ -20,16 +20,6 @@ impl Shape {
     pub fn is_draft(self) -> bool
         ensures { result ≡ is_draft self }
     {
-        match self {
-            Shape::Status(_) => false,
-            Shape::Info => false,
-            Shape::Names => false,
-            Shape::Registration => true,
-            Shape::Signed {
-                record: _,
-                count: _,
-                content: _,
-            } => true,
-        }
+        matches!(self, Shape::Registration | Shape::Signed { .. })
     }
 }
