@@ -1,28 +1,37 @@
--- Each record that is named has a place, and all names are few bytes.
+-- Each record that is named has a place; and the sum is few bytes.
+use mathlib.Core.Path.{◌∙◌}
+use Prim.Native.Nat.{◌<◌}
 use native.Mathlib.Omega.{arith}
-use Rattle.replies.proofs.PairLaws.{named-most, next_named}
+use lib.ListN.{length, get_or}
+use Rattle.std.proofs.Common.{rules, tests}
+use Rattle.std.proofs.lemmas.Iterator.{YieldsList-from_slice, YieldsList-from_map}
+use Rattle.std.proofs.lemmas.Iterator.Adapters.{serves_from_places}
+use Rattle.std.proofs.lemmas.Iterator.Consumers.{YieldsList-at, sum_by_from_yields_List, fits_by_from_yields_list}
+use Rattle.stored_table.specs.Stored.{Stands}
+use Rattle.replies.proofs.PairLaws.{named-most, pair_size, named_item, pairs-sum}
 use Rattle.replies.proofs.names.pairs_len.Goals as goal
 
-pub offset_bounds-places-record : goal.offset_bounds-places-record
-offset_bounds-places-record c = omega (arith, (next_named c.requires.indexed c.requires.chosen_of _ c.loop-record-test.true).near)
+pub sum-requires-clause-can : goal.sum-requires-clause-can
+sum-requires-clause-can c = (
+  tt,
+  serves_from_places (YieldsList-from_slice c.args.named.now cc) (λ x q k. search (rules, tests)) (λ x k h e.
+      let n = named_item c.requires.indexed c.requires.chosen_of x.now k h e in
+      let near = n.near in
+      let within : x.now < length c.map.result.f.1.now = rw c.map.ensures.closure n.within in
+      let stands : Stands c.map.result.f.0.now (get_or c.map.result.f.1.now x.now 0) = rw c.map.ensures.closure n.is.stands in
+      search (rules, tests)),
+)
 
-pub bounds-places-record : goal.bounds-places-record
-bounds-places-record c = (next_named c.requires.indexed c.requires.chosen_of _ c.loop-record-test.true).within
+pub sum-requires-clause-fits : goal.sum-requires-clause-fits
+sum-requires-clause-fits c =
+    fits_by_from_yields_list _ _ c.map.result _
+    (YieldsList-from_map _ (pair_size c.args.table.now c.args.places.now)
+    (YieldsList-at c.map.ensures.source (YieldsList-from_slice c.args.named.now cc)) c.map.ensures.closure (λ x r q k. search (rules, tests)))
+    (omega (arith, pairs-sum c.requires.indexed c.requires.chosen_of, named-most c.requires.indexed c.requires.chosen_of))
 
-pub name_len-requires : goal.name_len-requires
-name_len-requires c = (next_named c.requires.indexed c.requires.chosen_of _ c.loop-record-test.true).is.stands
-
-pub overflow_add-len : goal.overflow_add-len
-overflow_add-len c =
-    let n = next_named c.requires.indexed c.requires.chosen_of _ c.loop-record-test.true in
-    omega (arith, c.name_len.ensures, n.counted, n.room, named-most c.requires.indexed c.requires.chosen_of)
-
-pub overflow_add-len-in-loop-record : goal.overflow_add-len-in-loop-record
-overflow_add-len-in-loop-record c =
-    let n = next_named c.requires.indexed c.requires.chosen_of _ c.loop-record-test.true in
-    omega (arith, c.loop-record.invariant, c.name_len.ensures, n.counted, n.room, named-most c.requires.indexed c.requires.chosen_of)
-
-pub loop-record-preserved : goal.loop-record-preserved
-loop-record-preserved c =
-    let n = next_named c.requires.indexed c.requires.chosen_of _ c.loop-record-test.true in
-    omega (arith, c.loop-record.invariant, c.name_len.ensures, n.counted)
+pub returns : goal.returns
+returns c =
+    sum_by_from_yields_List _ _ c.map.result _ c.sum.ensures.ran
+    (YieldsList-from_map _ (pair_size c.args.table.now c.args.places.now)
+    (YieldsList-at c.map.ensures.source (YieldsList-from_slice c.args.named.now cc)) c.map.ensures.closure (λ x r q k. search (rules, tests)))
+    ∙ pairs-sum c.requires.indexed c.requires.chosen_of
