@@ -26,13 +26,13 @@ use Rattle.params.specs.Children.{child_passes, child_taken}
 abbrev pub kind_with : ℕ → Option model.Kind
 kind_with tag = first (select (λ k. eqb tag (command_tag k)) kinds)
 
-pub kind-short : (s : List ℕ) → length s < 4 → kind_of s ≡ none
+pub kind-short : (s : List ℕ) → length s < 4 → none ≡ kind_of s
 unfolding kind_of
 kind-short s h = simp (lt-leb _ _ h)
 
-pub kind-named : (s : List ℕ) (tag : ℕ) → 4 ≤ length s → tag ≡ num_at 2 s 0 → kind_of s ≡ kind_with tag
+pub kind-named : (s : List ℕ) {tag n : ℕ} → 4 ≤ length s → tag ≡ num_at 2 s 0 → tag ≡ n → kind_with n ≡ kind_of s
 unfolding kind_of num_at
-kind-named s tag h e = rw e (simp (le-leb _ _ h))
+kind-named s h e i = rw (← i, e) (simp (le-leb _ _ h))
 
 -- a tag that is none of the commands'
 select_none : {K : Type 0} (tag : ℕ) (ks : List model.Kind) → NoneOf command_tag K tag ks
@@ -42,8 +42,8 @@ select_none tag (k ∷ ks) h =
     let rest = select_none tag ks h in
     (rest.0.0, rw (ne_eqb tag (command_tag k) rest.0.1) rest.1)
 
-pub kind_none : (tag : ℕ) → NoneOf command_tag (Unit {0}) tag kinds → kind_with tag ≡ none
-kind_none tag h = ap first (select_none tag kinds h).1
+pub kind_none : (s : List ℕ) {tag : ℕ} → 4 ≤ length s → tag ≡ num_at 2 s 0 → NoneOf command_tag (Unit {0}) tag kinds → none ≡ kind_of s
+kind_none s {tag} h e k = sym (ap first (select_none tag kinds k).1) ∙ kind-named s h e refl
 
 -- ---- slots and tags
 
