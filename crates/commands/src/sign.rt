@@ -48,11 +48,13 @@ fn sign_one(content: bool, display: u32, count: u32, i: usize) -> Result<Decisio
         count: next,
         content,
     };
-    let change = Change::SetCount {
-        record: i,
-        count: next,
-    };
-    Ok(plain(shape, change))
+    Ok(plain(
+        shape,
+        Change::SetCount {
+            record: i,
+            count: next,
+        },
+    ))
 }
 
 // Sign: a status, the names of several, whose numbers it puts into what is lent for them, or signed data and a count raised. The key handles stand at
@@ -74,15 +76,15 @@ pub fn sign(
         chosen.new (decided result) }
 {
     judge_sign(params.broken, numbers.verdict)?;
-    let n = params.handle_count;
-    let named = choose(table, places, mixed, command, &handles[..n], chosen);
+    let given = &handles[..params.handle_count];
+    let named = choose(table, places, mixed, command, given, chosen);
     match named {
         0 => Err(Status::AccessDenied),
         1 => {
             let i = chosen[0];
-            let content = params.transaction_content;
+            let content = !params.transaction_content.is_empty();
             let count = count_of(table, places[i]);
-            sign_one(!content.is_empty(), numbers.display, count, i)
+            sign_one(content, numbers.display, count, i)
         }
         _ => Ok(Decision {
             shape: Shape::Names,

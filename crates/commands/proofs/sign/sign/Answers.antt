@@ -56,7 +56,7 @@ returns-in-1 c =
     let p = sign-placed c.args.numbers c.requires.params_read.0 c.in_ok-judge_sign.ensures in
     let i = one_placed w c.in-1.is c.requires.indexed in
     λ k. one-chosen w c.in-1.is
-    (ap not (placed_empty _ _ _ p.transaction-content ∙ sym c.is_empty.ensures))
+    (ap not (placed_empty _ _ _ p.transaction-content ∙ sym c.is_empty-content.ensures))
     (sym (c.count_of-count.ensures ∙ ap (λ (r : Record). r.count) (record-at c.requires.indexed _ i).is))
     c.sign_one.ensures
 
