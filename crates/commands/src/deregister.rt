@@ -31,10 +31,7 @@ fn judge_deregister(
         return Err(Status::ParamsInvalid);
     }
     let key = params.key_id;
-    if key.is_empty() {
-        return Ok(());
-    }
-    if !is_own(table, places, mixed, part_of(command, key)) {
+    if !key.is_empty() && !is_own(table, places, mixed, part_of(command, key)) {
         return Err(Status::AccessDenied);
     }
     Ok(())
