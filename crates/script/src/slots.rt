@@ -104,6 +104,7 @@ const SIZE: usize = MOST + 2;
 
 // What each slot holds: the argument's length in two bytes, the low one first, and then its bytes. The length is not kept apart, since a change past the
 // end of one slot goes on into the next.
+#[derive(Drop)]
 pub struct Slots {
     slots: [[u8; SIZE]; SLOTS],
 }
