@@ -102,8 +102,8 @@ pub const MOST: usize = 8448;
 
 const SIZE: usize = MOST + 2;
 
-// What each slot holds: the argument's length in two bytes, the low one first, and then its bytes. The length is not kept apart, since a change past the
-// end of one slot goes on into the next.
+// What each slot holds: the argument's length in two bytes, the low one first, and then its bytes. A length stands beside its bytes, since a change of
+// a place past the end of its slot goes on into the slots behind it, and may be of a length there.
 #[derive(Drop)]
 pub struct Slots {
     slots: [[u8; SIZE]; SLOTS],

@@ -2,8 +2,7 @@
 ghost use Rattle.std.specs.Prelude.{◌≡◌, ◌<◌};
 ghost use Rattle.script.specs.Adler.{adler_from};
 
-use std::fmt;
-use std::io;
+use std::{fmt, io};
 
 // The value of a hexadecimal digit with capital letters; of any other byte 0.
 fn digit(c: u8) -> u8

@@ -11,11 +11,7 @@ pub fn hash(rt: &impl Print, name: &[u8], slots: &Slots) -> io::Result<()> {
     rt.write_all(name)?;
     print!(rt; ": hash")?;
     let mut digest = [FILL; SIZE];
-    uaf_hash(
-        slots.arg(Slot::First),
-        slots.arg(Slot::Second),
-        &mut digest,
-    );
+    uaf_hash(slots.arg(Slot::First), slots.arg(Slot::Second), &mut digest);
     write_written(rt, &digest, SIZE, Detail::Whole)?;
     println!(rt)
 }

@@ -96,9 +96,7 @@ fn hand_back(
         Written::Wrote(n) => {
             print!(rt; " table")?;
             write_written(rt, table_out, n, detail)?;
-            if !refused
-                && let Some(table) = table_out.get(..n)
-            {
+            if !refused && let Some(table) = table_out.get(..n) {
                 slots.store(Slot::Table, table);
             }
             Ok(())
@@ -114,7 +112,18 @@ fn is_refused(answered: Answered) -> bool {
     }
 }
 
-// Loads the table in its slot, and calls with it if there is one: says what that gave and hands back the table left.
+// The table in its slot, spoilt if the script asks for it; if the slot has the stored form of no table, says so.
+fn table_in(rt: &impl Print, slots: &Slots) -> io::Result<Option<Table>> {
+    let loaded = load(slots.arg(Slot::Table));
+    if loaded.refusal != 0 {
+        print!(rt; "load {}", loaded.refusal)?;
+        return Ok(None);
+    }
+    print!(rt; "by value, ")?;
+    Ok(Some(spoil(loaded.table, slots.number(Slot::Spoilt))))
+}
+
+// Calls with the table in its slot, if there is one: says what that gave and hands back the table left.
 pub fn run_by_value(
     rt: &impl Print,
     detail: Detail,
@@ -122,30 +131,31 @@ pub fn run_by_value(
     response: &mut [u8],
     table_out: &mut [u8],
 ) -> io::Result<()> {
-    let loaded = load(slots.arg(Slot::Table));
-    if loaded.refusal != 0 {
-        return print!(rt; "load {}", loaded.refusal);
-    }
-    print!(rt; "by value, ")?;
-    let t = spoil(loaded.table, slots.number(Slot::Spoilt));
+    let Some(t) = table_in(rt, slots)? else {
+        return Ok(());
+    };
     let ran = call(slots, t, response);
     let answered = ran.answered;
     tell_answered(rt, answered, response)?;
-    hand_back(rt, ran.table, is_refused(answered), detail, slots, table_out)
+    hand_back(
+        rt,
+        ran.table,
+        is_refused(answered),
+        detail,
+        slots,
+        table_out,
+    )
 }
 
-// Loads the table in its slot, and withdraws from it if there is one: says what that gave and hands back the table left.
+// Withdraws from the table in its slot, if there is one: says what that gave and hands back the table left.
 pub fn withdraw_by_value(
     rt: &impl Print,
     slots: &mut Slots,
     table_out: &mut [u8],
 ) -> io::Result<()> {
-    let loaded = load(slots.arg(Slot::Table));
-    if loaded.refusal != 0 {
-        return print!(rt; "load {}", loaded.refusal);
-    }
-    print!(rt; "by value, ")?;
-    let t = spoil(loaded.table, slots.number(Slot::Spoilt));
+    let Some(t) = table_in(rt, slots)? else {
+        return Ok(());
+    };
     let done = withdraw::withdraw(slots.arg(Slot::Mixed), slots.arg(Slot::KeyId), t);
     match done.refusal {
         0 => print!(rt; "withdrawn")?,

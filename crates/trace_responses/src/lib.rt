@@ -90,12 +90,7 @@ fn sum(column: &[usize]) -> usize {
 
 // Every entry, so that those past the count are seen to be 0.
 fn tell_fields(rt: &impl Print, listed: &Listed) -> io::Result<()> {
-    for ((tag, place), length) in listed
-        .tags
-        .iter()
-        .zip(&listed.places)
-        .zip(&listed.lengths)
-    {
+    for ((tag, place), length) in listed.tags.iter().zip(&listed.places).zip(&listed.lengths) {
         print!(rt; "; {tag} {place} {length}")?;
     }
     Ok(())

@@ -22,9 +22,8 @@ fn sizes_in<'a>(slots: &Slots, room: &'a mut [usize; MOST_SIZES]) -> &'a [usize]
     &room[..n]
 }
 
-fn register(slots: &Slots, command: &mut [u8]) -> Given {
-    let mut len = UNSET;
-    let code = uaf_write_register(
+fn register(slots: &Slots, command: &mut [u8], len: &mut usize) -> u32 {
+    uaf_write_register(
         slots.number(Slot::AppIdGiven),
         slots.arg(Slot::AppId),
         slots.arg(Slot::Challenge),
@@ -34,15 +33,13 @@ fn register(slots: &Slots, command: &mut [u8]) -> Given {
         slots.number(Slot::VerifyTokenGiven),
         slots.arg(Slot::VerifyToken),
         command,
-        &mut len,
-    );
-    Given { code, len }
+        len,
+    )
 }
 
-fn sign(slots: &Slots, command: &mut [u8]) -> Given {
-    let mut len = UNSET;
+fn sign(slots: &Slots, command: &mut [u8], len: &mut usize) -> u32 {
     let mut room = [0; MOST_SIZES];
-    let code = uaf_write_sign(
+    uaf_write_sign(
         slots.number(Slot::AppIdGiven),
         slots.arg(Slot::AppId),
         slots.arg(Slot::Challenge),
@@ -54,45 +51,32 @@ fn sign(slots: &Slots, command: &mut [u8]) -> Given {
         slots.arg(Slot::Handles),
         sizes_in(slots, &mut room),
         command,
-        &mut len,
-    );
-    Given { code, len }
+        len,
+    )
 }
 
-fn deregister(slots: &Slots, command: &mut [u8]) -> Given {
-    let mut len = UNSET;
-    let code = uaf_write_deregister(
+fn deregister(slots: &Slots, command: &mut [u8], len: &mut usize) -> u32 {
+    uaf_write_deregister(
         slots.number(Slot::AppIdGiven),
         slots.arg(Slot::AppId),
         slots.arg(Slot::KeyId),
         slots.arg(Slot::AccessToken),
         command,
-        &mut len,
-    );
-    Given { code, len }
-}
-
-fn get_info(command: &mut [u8]) -> Given {
-    let mut len = UNSET;
-    let code = uaf_write_get_info(command, &mut len);
-    Given { code, len }
-}
-
-fn open_settings(command: &mut [u8]) -> Given {
-    let mut len = UNSET;
-    let code = uaf_write_open_settings(command, &mut len);
-    Given { code, len }
+        len,
+    )
 }
 
 // Writes the command whose number is in the slot of the kind.
 fn write_kind(slots: &Slots, command: &mut [u8]) -> Given {
-    match slots.number(Slot::Kind) {
-        0 => get_info(command),
-        1 => register(slots, command),
-        2 => sign(slots, command),
-        3 => deregister(slots, command),
-        _ => open_settings(command),
-    }
+    let mut len = UNSET;
+    let code = match slots.number(Slot::Kind) {
+        0 => uaf_write_get_info(command, &mut len),
+        1 => register(slots, command, &mut len),
+        2 => sign(slots, command, &mut len),
+        3 => deregister(slots, command, &mut len),
+        _ => uaf_write_open_settings(command, &mut len),
+    };
+    Given { code, len }
 }
 
 // Writes a command into an output of its own, writes its line and keeps the command to be run.
