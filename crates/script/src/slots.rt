@@ -126,10 +126,8 @@ impl Slots {
 
     // The number in a slot, of four bytes.
     pub fn number(&self, slot: Slot) -> u32 {
-        match self.arg(slot).first_chunk() {
-            Some(bytes) => u32::from_le_bytes(*bytes),
-            None => 0,
-        }
+        let chunk = self.arg(slot).first_chunk();
+        chunk.map_or(0, |bytes| u32::from_le_bytes(*bytes))
     }
 
     // The number in a slot as a length.

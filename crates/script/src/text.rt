@@ -4,7 +4,7 @@ ghost use Rattle.script.specs.Adler.{adler_from};
 
 use std::{fmt, io};
 
-// The value of a hexadecimal digit with capital letters; of any other byte 0.
+// The value of a hexadecimal digit with capital letters; of any other byte 0, also of a small letter, which `to_digit` would take.
 fn digit(c: u8) -> u8
     ensures { result < 16 }
 {
