@@ -37,9 +37,8 @@ pub fn put_handles(out: &mut [u8], at: usize, handles: &[u8]) -> usize
     ensures { Wrote out.old at (bytes (handle_tlvs (length handles.now / 32) handles.now)) (36 * (length handles.now / 32)) out.new result }
 {
     let mut end = at;
-    for i in 0..handles.len() / HANDLE {
-        let start = HANDLE * i;
-        end = put_tlv(out, end, tags::KEYHANDLE, &handles[start..start + HANDLE]);
+    for handle in handles.chunks_exact(HANDLE) {
+        end = put_tlv(out, end, tags::KEYHANDLE, handle);
     }
     end
 }
