@@ -35,7 +35,8 @@ pub fn kind_of(s: &[u8]) -> Option<Kind>
     }
 }
 
-// The fields that commands list have slots, numbered in an order that every command's list keeps.
+// The fields that commands list have slots, numbered in an order that every command's list keeps. They are numbers and no enum, since they index the
+// arrays of a listing, and since `slot_fits` promises its answer for every number.
 pub const INDEX: usize = 0;
 
 pub const APP_ID: usize = 1;
@@ -60,6 +61,7 @@ pub const KEY_HANDLE: usize = 9;
 pub const SLOTS: usize = 10;
 
 // The slot of the field with a tag; SLOTS for any other tag.
+#[tactic(auto, using(crate::proofs::KindLaws::slot_none), unfolding(crate::specs::Slots::slot_of))]
 pub fn slot_of(tag: usize) -> usize
     ensures { result ≡ slot_of tag }
 {
@@ -90,6 +92,7 @@ pub struct Listing {
 
 // What each command lists, in the order of the slots. A field that it does not list is never given. Made once for a command, it is
 // then indexed.
+#[tactic(auto, unfolding(crate::specs::Slots::least_for, crate::specs::Slots::most_for))]
 pub fn listed(kind: Kind) -> Listing
     ensures { result ≡ listing_for (kind_is kind) }
 {
@@ -142,17 +145,10 @@ pub fn slot_fits(slot: usize, v: &[u8]) -> bool
     if !allows(size_of(slot), v.len()) {
         return false;
     }
-    if slot == INDEX {
-        return v[0] == 0;
+    match slot {
+        INDEX => v[0] == 0,
+        USERNAME => is_utf8(v),
+        KEY_ID => v.is_empty() || v.len() == 32,
+        _ => true,
     }
-    if slot == USERNAME {
-        return is_utf8(v);
-    }
-    if slot == KEY_ID {
-        if v.len() == 0 {
-            return true;
-        }
-        return v.len() == 32;
-    }
-    true
 }

@@ -1,11 +1,10 @@
-// Text: bytes in hexadecimal, numbers, and a sum that tells stretches apart.
-ghost use Rattle.std.specs.Prelude.{◌≡◌, ◌≤◌, ◌<◌};
+// Text: bytes in hexadecimal, what the calls with one output gave, and a sum that tells stretches apart.
+ghost use Rattle.std.specs.Prelude.{◌≡◌, ◌<◌};
 ghost use Rattle.script.specs.Adler.{adler_from};
 
-use std::io;
-use tlv::numbers::wide;
+use std::{fmt, io};
 
-// The value of a hexadecimal digit with capital letters; of any other byte 0.
+// The value of a hexadecimal digit with capital letters; of any other byte 0, also of a small letter, which `to_digit` would take.
 fn digit(c: u8) -> u8
     ensures { result < 16 }
 {
@@ -16,97 +15,85 @@ fn digit(c: u8) -> u8
     }
 }
 
-// The bytes that hexadecimal text spells, as many as there is room for; how many.
-pub fn read_hex(text: &[u8], out: &mut [u8]) -> usize {
-    let n = min(text.len() / 2, out.len());
-    let mut i = 0;
-    while i < n {
-        out[i] = digit(text[2 * i]) * 16 + digit(text[2 * i + 1]);
-        i += 1;
+// The bytes that hexadecimal text spells, as many as there is room for.
+pub fn read_hex<'a>(text: &[u8], room: &'a mut [u8]) -> &'a [u8] {
+    let (pairs, _) = text.as_chunks::<2>();
+    for (byte, [high, low]) in room.iter_mut().zip(pairs) {
+        *byte = digit(*high) * 16 + digit(*low);
     }
-    n
+    let n = room.len().min(pairs.len());
+    &room[..n]
 }
 
-// The smaller of two numbers.
-fn min(a: usize, b: usize) -> usize
-    ensures { (result ≤ a) × (result ≤ b) }
-{
-    if a < b { a } else { b }
-}
+// Bytes, which are written in hexadecimal.
+#[derive(Drop)]
+struct Hex<'a>(&'a [u8]);
 
-// Writes bytes in hexadecimal.
-fn write_hex(rt: &impl Print, s: &[u8]) -> io::Result<()> {
-    let mut i = 0;
-    while i < s.len() {
-        write_byte(rt, s[i])?;
-        i += 1;
+impl fmt::Display for Hex<'_> {
+    fn fmt<W: fmt::Write>(&self, f: &mut fmt::Formatter<W>) -> fmt::Result {
+        for byte in self.0 {
+            write!(f, "{byte:02X}")?;
+        }
+        Ok(())
     }
-    Ok(())
 }
 
-// Writes a byte as two digits.
-fn write_byte(rt: &impl Print, x: u8) -> io::Result<()> {
-    let letters = b"0123456789ABCDEF";
-    let high = letters[wide(x / 16)];
-    let low = letters[wide(x % 16)];
-    rt.write_all(&[high, low])
-}
-
-// Writes a number in decimal.
-fn write_number(rt: &impl Print, n: usize) -> io::Result<()> {
-    rt.print(n)
-}
-
-// A space and a number.
-pub fn write_next(rt: &impl Print, n: usize) -> io::Result<()> {
-    rt.write_all(b" ")?;
-    write_number(rt, n)
+// How much is told of what was written into an output.
+#[derive(Clone, Copy)]
+pub enum Detail {
+    Sums,
+    Whole,
 }
 
 // What was written from the front of an output, or only a sum of it, and a sum of what is beyond.
-pub fn write_written(rt: &impl Print, s: &[u8], n: usize, whole: bool) -> io::Result<()> {
-    if s.len() < n {
-        return rt.write_all(b" a length too great");
+pub fn write_written(rt: &impl Print, output: &[u8], len: usize, detail: Detail) -> io::Result<()> {
+    let Some((written, beyond)) = output.split_at_checked(len) else {
+        return print!(rt; " a length too great");
+    };
+    print!(rt; " {len} {} {}", adler(written), adler(beyond))?;
+    match detail {
+        Detail::Sums => Ok(()),
+        Detail::Whole => print!(rt; " {}", Hex(written)),
     }
-    write_next(rt, n)?;
-    write_next(rt, adler(&s[0..n]))?;
-    write_next(rt, adler(&s[n..]))?;
-    if whole {
-        rt.write_all(b" ")?;
-        write_hex(rt, &s[0..n])?;
-    }
-    Ok(())
 }
 
-// What a call with one output gave: after a refusal its number, the length and a sum of the output; else this word, and what was written.
-pub fn write_given(
-    rt: &impl Print,
-    word: &[u8],
-    code: u32,
-    len: usize,
-    output: &[u8],
-) -> io::Result<()> {
-    if code != 0 {
-        rt.write_all(b"refusal")?;
-        write_next(rt, code as usize)?;
-        write_next(rt, len)?;
-        return write_next(rt, adler(output));
+// What a C entry with one output gave: the refusal number, or 0, and the length. After a refusal both are told, so that the length is seen to be
+// untouched.
+#[derive(Clone, Copy)]
+pub struct Given {
+    pub code: u32,
+    pub len: usize,
+}
+
+impl Given {
+    // Says what was given: after a refusal its number, the length and a sum of the output; else this word, and what was written.
+    pub fn tell(self, rt: &impl Print, word: &str, output: &[u8]) -> io::Result<()> {
+        let Given { code, len } = self;
+        if code != 0 {
+            return print!(rt; "refusal {code} {len} {}", adler(output));
+        }
+        print!(rt; "{word}")?;
+        write_written(rt, output, len, Detail::Whole)
     }
-    rt.write_all(word)?;
-    write_written(rt, output, len, true)
+
+    // What was written from the front of the output, unless the call was refused.
+    pub fn written(self, output: &[u8]) -> Option<&[u8]> {
+        if self.code != 0 {
+            return None;
+        }
+        output.get(..self.len)
+    }
 }
 
 // Adler-32, which tells stretches apart in a short line.
-pub fn adler(s: &[u8]) -> usize
+pub fn adler(s: &[u8]) -> u32
     ensures { result ≡ adler_from 1 0 s.now }
 {
     let mut a = 1;
     let mut b = 0;
-    let mut i = 0;
-    while i < s.len() {
-        a = (a + wide(s[i])) % 65521;
+    for x in s {
+        a = (a + u32::from(*x)) % 65521;
         b = (b + a) % 65521;
-        i += 1;
     }
     b * 65536 + a
 }

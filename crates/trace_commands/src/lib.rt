@@ -8,16 +8,19 @@ pub mod withdrawals;
 
 use crate::values::run_by_value;
 use params::lent::Numbers;
-use script::slots::{
-    AAID, COMMAND, DISPLAY, FILL, KEY_ALGORITHM, KEY_ID, METADATA, MOST, NO_ANSWER, NONCE,
-    PUBLIC_KEY, RESPONSE_LENGTH, SIGNATURE_ALGORITHM, TABLE, TABLE_LENGTH, UNSET, VERDICT, VERSION,
-    arg, number, store,
-};
-use script::text::{adler, write_next, write_written};
+use script::slots::{FILL, MOST, NO_ANSWER, Slot, Slots, UNSET};
+use script::text::{Detail, adler, write_written};
 use std::io;
 use token::uaf_command;
 
-// What a call gave: the refusal number, or 0, and the three numbers.
+// How a call is handed the table.
+#[derive(Clone, Copy)]
+pub enum Form {
+    Stored,
+    ByValue,
+}
+
+// What a call gave: the refusal number, or 0, and the three numbers. After a refusal these are told too, so that they are seen to be untouched.
 #[derive(Clone, Copy)]
 struct Given {
     code: u32,
@@ -27,35 +30,35 @@ struct Given {
 }
 
 // The lent numbers in the slots.
-fn numbers_in(mem: &[u8]) -> Numbers {
+fn numbers_in(slots: &Slots) -> Numbers {
     Numbers {
-        version: number(mem, VERSION) as u32,
-        signature_algorithm: number(mem, SIGNATURE_ALGORITHM) as u32,
-        key_algorithm: number(mem, KEY_ALGORITHM) as u32,
-        verdict: number(mem, VERDICT) as u32,
-        display: number(mem, DISPLAY) as u32,
+        version: slots.number(Slot::Version),
+        signature_algorithm: slots.number(Slot::SignatureAlgorithm),
+        key_algorithm: slots.number(Slot::KeyAlgorithm),
+        verdict: slots.number(Slot::Verdict),
+        display: slots.number(Slot::Display),
     }
 }
 
 // Calls with the arguments in the slots and two outputs.
-fn call(mem: &[u8], response: &mut [u8], table_out: &mut [u8]) -> Given {
-    let numbers = numbers_in(mem);
+fn call(slots: &Slots, response: &mut [u8], table_out: &mut [u8]) -> Given {
+    let numbers = numbers_in(slots);
     let mut answer = NO_ANSWER;
     let mut response_len = UNSET;
     let mut table_len = UNSET;
     let code = uaf_command(
-        arg(mem, COMMAND),
-        arg(mem, AAID),
+        slots.arg(Slot::Command),
+        slots.arg(Slot::Aaid),
         numbers.version,
         numbers.signature_algorithm,
         numbers.key_algorithm,
-        arg(mem, METADATA),
+        slots.arg(Slot::Metadata),
         numbers.verdict,
         numbers.display,
-        arg(mem, KEY_ID),
-        arg(mem, PUBLIC_KEY),
-        arg(mem, NONCE),
-        arg(mem, TABLE),
+        slots.arg(Slot::KeyId),
+        slots.arg(Slot::PublicKey),
+        slots.arg(Slot::Nonce),
+        slots.arg(Slot::Table),
         response,
         table_out,
         &mut answer,
@@ -70,94 +73,76 @@ fn call(mem: &[u8], response: &mut [u8], table_out: &mut [u8]) -> Given {
     }
 }
 
-// Says what a refused call left: the numbers, and a sum of each output.
-fn tell_refusal(rt: &impl Print, g: Given, response: &[u8], table_out: &[u8]) -> io::Result<()> {
-    rt.write_all(b"refusal")?;
-    write_next(rt, g.code as usize)?;
-    write_next(rt, g.answer as usize)?;
-    write_next(rt, g.response_len)?;
-    write_next(rt, g.table_len)?;
-    write_next(rt, adler(response))?;
-    write_next(rt, adler(table_out))
-}
-
-// Says what the response output holds, by the number that the call gave.
-fn write_kind(rt: &impl Print, answer: u32) -> io::Result<()> {
+// What the response output holds, by the number that the call gave.
+fn kind_of(answer: u32) -> &'static str {
     match answer {
-        0 => rt.write_all(b"response"),
-        1 => rt.write_all(b"draft"),
-        _ => rt.write_all(b"neither"),
+        0 => "response",
+        1 => "draft",
+        _ => "neither",
     }
 }
 
-// Says what a call that is not refused wrote.
-fn tell_answer(
+// Says what a call gave: after a refusal its number, the other numbers, and a sum of each output; else what it wrote.
+fn tell(
     rt: &impl Print,
-    g: Given,
+    given: Given,
+    detail: Detail,
     response: &[u8],
     table_out: &[u8],
-    dump: bool,
 ) -> io::Result<()> {
-    write_kind(rt, g.answer)?;
-    write_written(rt, response, g.response_len, true)?;
-    rt.write_all(b" table")?;
-    write_written(rt, table_out, g.table_len, dump)
+    let Given {
+        code,
+        answer,
+        response_len,
+        table_len,
+    } = given;
+    if code != 0 {
+        print!(rt; "refusal {code} {answer} {response_len} {table_len}")?;
+        return print!(rt; " {} {}", adler(response), adler(table_out));
+    }
+    print!(rt; "{}", kind_of(answer))?;
+    write_written(rt, response, response_len, Detail::Whole)?;
+    print!(rt; " table")?;
+    write_written(rt, table_out, table_len, detail)
 }
 
 // Runs a call on the stored table, says what it gave and keeps the table left.
 fn run_stored(
     rt: &impl Print,
-    dump: bool,
-    mem: &mut [u8],
+    detail: Detail,
+    slots: &mut Slots,
     response: &mut [u8],
     table_out: &mut [u8],
 ) -> io::Result<()> {
-    let g = call(mem, response, table_out);
-    if g.code != 0 {
-        return tell_refusal(rt, g, response, table_out);
+    let given = call(slots, response, table_out);
+    tell(rt, given, detail, response, table_out)?;
+    if given.code == 0
+        && let Some(table) = table_out.get(..given.table_len)
+    {
+        slots.store(Slot::Table, table);
     }
-    tell_answer(rt, g, response, table_out, dump)?;
-    store(table_out, g.table_len, TABLE, mem);
     Ok(())
 }
 
-// Runs a call in one of the two forms. The outputs are the first bytes of two stretches.
-fn run_in(
-    rt: &impl Print,
-    by_value: bool,
-    dump: bool,
-    mem: &mut [u8],
-    response: &mut [u8],
-    table_out: &mut [u8],
-) -> io::Result<()> {
-    let n = number(mem, RESPONSE_LENGTH);
-    let m = number(mem, TABLE_LENGTH);
-    if response.len() < n {
-        return Ok(());
-    }
-    if table_out.len() < m {
-        return Ok(());
-    }
-    let response = &mut response[0..n];
-    let table_out = &mut table_out[0..m];
-    if by_value {
-        return run_by_value(rt, dump, mem, response, table_out);
-    }
-    run_stored(rt, dump, mem, response, table_out)
-}
-
-// Runs a command with outputs of its own, on the stored table or on the table by value, writes its line and keeps the table that it left for the next.
+// Runs a command with outputs of its own, on the table in this form, writes its line, with so much of the table left, and keeps that for the next.
 pub fn run(
     rt: &impl Print,
     name: &[u8],
-    by_value: bool,
-    dump: bool,
-    mem: &mut [u8],
+    form: Form,
+    detail: Detail,
+    slots: &mut Slots,
 ) -> io::Result<()> {
     rt.write_all(name)?;
-    rt.write_all(b": ")?;
+    print!(rt; ": ")?;
     let mut response = [FILL; MOST];
     let mut table_out = [FILL; MOST];
-    run_in(rt, by_value, dump, mem, &mut response, &mut table_out)?;
-    rt.write_all(b"\n")
+    let response = response.get_mut(..slots.length(Slot::ResponseLength));
+    let table_out = table_out.get_mut(..slots.length(Slot::TableLength));
+    if let (Some(response), Some(table_out)) = (response, table_out) {
+        match form {
+            Form::Stored => run_stored(rt, detail, slots, response, table_out)?,
+            Form::ByValue => run_by_value(rt, detail, slots, response, table_out)?,
+        }
+    }
+    println!(rt)
 }

@@ -5,57 +5,41 @@
 //   NAME: load N                            the slot has the stored form of no table, and nothing is called
 //   NAME: by value, refusal N ..            the withdrawal is refused; then what storing the table that came back gives, as for a command by value
 //   NAME: by value, withdrawn ..            the record was taken back; then the same
-use crate::values::{tell, withdraw_by_value};
-use script::slots::{FILL, KEY_ID, MIXED, MOST, TABLE, TABLE_LENGTH, UNSET, arg, number, store};
-use script::text::{adler, write_next, write_written};
+use crate::Form;
+use crate::values::withdraw_by_value;
+use script::slots::{FILL, MOST, Slot, Slots, UNSET};
+use script::text::Given;
 use std::io;
 use token::withdrawals::uaf_withdraw;
 
 // Withdraws from the stored table, says what that gave and keeps the table left.
-fn withdraw_stored(rt: &impl Print, mem: &mut [u8], table_out: &mut [u8]) -> io::Result<()> {
+fn withdraw_stored(rt: &impl Print, slots: &mut Slots, table_out: &mut [u8]) -> io::Result<()> {
     let mut len = UNSET;
     let code = uaf_withdraw(
-        arg(mem, MIXED),
-        arg(mem, KEY_ID),
-        arg(mem, TABLE),
+        slots.arg(Slot::Mixed),
+        slots.arg(Slot::KeyId),
+        slots.arg(Slot::Table),
         table_out,
         &mut len,
     );
-    if code != 0 {
-        tell(rt, b"refusal", code)?;
-        write_next(rt, len)?;
-        return write_next(rt, adler(table_out));
+    let given = Given { code, len };
+    given.tell(rt, "withdrawn table", table_out)?;
+    if let Some(table) = given.written(table_out) {
+        slots.store(Slot::Table, table);
     }
-    rt.write_all(b"withdrawn table")?;
-    write_written(rt, table_out, len, true)?;
-    store(table_out, len, TABLE, mem);
     Ok(())
 }
 
-// Withdraws in one of the two forms. The output is the first bytes of a stretch.
-fn withdraw_in(
-    rt: &impl Print,
-    by_value: bool,
-    mem: &mut [u8],
-    table_out: &mut [u8],
-) -> io::Result<()> {
-    let n = number(mem, TABLE_LENGTH);
-    if table_out.len() < n {
-        return Ok(());
-    }
-    let table_out = &mut table_out[0..n];
-    if by_value {
-        return withdraw_by_value(rt, mem, table_out);
-    }
-    withdraw_stored(rt, mem, table_out)
-}
-
-// Runs a withdrawal with an output of its own, on the stored table or on the table by value, writes its line and keeps the table that it left for the
-// next.
-pub fn take_back(rt: &impl Print, name: &[u8], by_value: bool, mem: &mut [u8]) -> io::Result<()> {
+// Runs a withdrawal with an output of its own, on the table in this form, writes its line and keeps the table that it left for the next.
+pub fn take_back(rt: &impl Print, name: &[u8], form: Form, slots: &mut Slots) -> io::Result<()> {
     rt.write_all(name)?;
-    rt.write_all(b": ")?;
+    print!(rt; ": ")?;
     let mut table_out = [FILL; MOST];
-    withdraw_in(rt, by_value, mem, &mut table_out)?;
-    rt.write_all(b"\n")
+    if let Some(table_out) = table_out.get_mut(..slots.length(Slot::TableLength)) {
+        match form {
+            Form::Stored => withdraw_stored(rt, slots, table_out)?,
+            Form::ByValue => withdraw_by_value(rt, slots, table_out)?,
+        }
+    }
+    println!(rt)
 }

@@ -1,162 +1,97 @@
 // The writers of commands: one from the arguments in the slots, and the line that says what it gave.
 #![tactic(auto)]
 
-ghost use Rattle.std.specs.Prelude.{◌≤◌};
-
-use script::slots::{
-    ACCESS_TOKEN, APP_ID, APP_ID_GIVEN, CHALLENGE, COMMAND, CONTENT, CONTENT_GIVEN, FILL,
-    HANDLE_SIZES, HANDLES, KEY_ID, KIND, MOST, RESPONSE_LENGTH, TYPE, UNSET, USERNAME,
-    VERIFY_TOKEN, VERIFY_TOKEN_GIVEN, arg, number, store,
-};
-use script::text::write_given;
+use script::slots::{FILL, MOST, Slot, Slots, UNSET};
+use script::text::Given;
 use std::io;
-use tlv::numbers::get32;
 use token::writers::{
     uaf_write_deregister, uaf_write_get_info, uaf_write_open_settings, uaf_write_register,
     uaf_write_sign,
 };
 
-// What a writer gave: the refusal number, or 0, and the length.
-#[derive(Clone, Copy)]
-struct Given {
-    code: u32,
-    len: usize,
-}
-
 // So many lengths of key handles are taken, each of four bytes.
 const MOST_SIZES: usize = 16;
 
-const SIZE_BYTES: usize = 4;
-
-// How many lengths are in their slot.
-fn count_sizes(mem: &[u8]) -> usize
-    ensures { result ≤ 16 }
-{
-    let n = arg(mem, HANDLE_SIZES).len() / SIZE_BYTES;
-    if MOST_SIZES < n {
-        return MOST_SIZES;
+// Takes the lengths in their slot, as many as there is room for; those that were taken.
+fn sizes_in<'a>(slots: &Slots, room: &'a mut [usize; MOST_SIZES]) -> &'a [usize] {
+    let (lengths, _) = slots.arg(Slot::HandleSizes).as_chunks::<4>();
+    for (size, bytes) in room.iter_mut().zip(lengths) {
+        *size = u32::from_le_bytes(*bytes) as usize;
     }
-    n
+    let n = lengths.len().min(MOST_SIZES);
+    &room[..n]
 }
 
-// The lengths in their slot, and then 0.
-fn sizes_in(mem: &[u8]) -> [usize; MOST_SIZES] {
-    let v = arg(mem, HANDLE_SIZES);
-    let mut sizes = [0usize; MOST_SIZES];
-    let mut i = 0;
-    while i < MOST_SIZES {
-        if v.len() < SIZE_BYTES * i + SIZE_BYTES {
-            return sizes;
-        }
-        sizes[i] = get32(v, SIZE_BYTES * i);
-        i += 1;
-    }
-    sizes
-}
-
-fn register(mem: &[u8], command: &mut [u8]) -> Given {
-    let mut len = UNSET;
-    let app_id_given = number(mem, APP_ID_GIVEN) as u32;
-    let attestation = number(mem, TYPE) as u32;
-    let verify_token_given = number(mem, VERIFY_TOKEN_GIVEN) as u32;
-    let code = uaf_write_register(
-        app_id_given,
-        arg(mem, APP_ID),
-        arg(mem, CHALLENGE),
-        arg(mem, USERNAME),
-        attestation,
-        arg(mem, ACCESS_TOKEN),
-        verify_token_given,
-        arg(mem, VERIFY_TOKEN),
+fn register(slots: &Slots, command: &mut [u8], len: &mut usize) -> u32 {
+    uaf_write_register(
+        slots.number(Slot::AppIdGiven),
+        slots.arg(Slot::AppId),
+        slots.arg(Slot::Challenge),
+        slots.arg(Slot::Username),
+        slots.number(Slot::Attestation),
+        slots.arg(Slot::AccessToken),
+        slots.number(Slot::VerifyTokenGiven),
+        slots.arg(Slot::VerifyToken),
         command,
-        &mut len,
-    );
-    Given { code, len }
+        len,
+    )
 }
 
-fn sign(mem: &[u8], command: &mut [u8]) -> Given {
-    let mut len = UNSET;
-    let app_id_given = number(mem, APP_ID_GIVEN) as u32;
-    let content_given = number(mem, CONTENT_GIVEN) as u32;
-    let verify_token_given = number(mem, VERIFY_TOKEN_GIVEN) as u32;
-    let sizes = sizes_in(mem);
-    let n = count_sizes(mem);
-    let code = uaf_write_sign(
-        app_id_given,
-        arg(mem, APP_ID),
-        arg(mem, CHALLENGE),
-        content_given,
-        arg(mem, CONTENT),
-        arg(mem, ACCESS_TOKEN),
-        verify_token_given,
-        arg(mem, VERIFY_TOKEN),
-        arg(mem, HANDLES),
-        &sizes[0..n],
+fn sign(slots: &Slots, command: &mut [u8], len: &mut usize) -> u32 {
+    let mut room = [0; MOST_SIZES];
+    uaf_write_sign(
+        slots.number(Slot::AppIdGiven),
+        slots.arg(Slot::AppId),
+        slots.arg(Slot::Challenge),
+        slots.number(Slot::ContentGiven),
+        slots.arg(Slot::Content),
+        slots.arg(Slot::AccessToken),
+        slots.number(Slot::VerifyTokenGiven),
+        slots.arg(Slot::VerifyToken),
+        slots.arg(Slot::Handles),
+        sizes_in(slots, &mut room),
         command,
-        &mut len,
-    );
-    Given { code, len }
+        len,
+    )
 }
 
-fn deregister(mem: &[u8], command: &mut [u8]) -> Given {
-    let mut len = UNSET;
-    let app_id_given = number(mem, APP_ID_GIVEN) as u32;
-    let code = uaf_write_deregister(
-        app_id_given,
-        arg(mem, APP_ID),
-        arg(mem, KEY_ID),
-        arg(mem, ACCESS_TOKEN),
+fn deregister(slots: &Slots, command: &mut [u8], len: &mut usize) -> u32 {
+    uaf_write_deregister(
+        slots.number(Slot::AppIdGiven),
+        slots.arg(Slot::AppId),
+        slots.arg(Slot::KeyId),
+        slots.arg(Slot::AccessToken),
         command,
-        &mut len,
-    );
-    Given { code, len }
-}
-
-fn get_info(command: &mut [u8]) -> Given {
-    let mut len = UNSET;
-    let code = uaf_write_get_info(command, &mut len);
-    Given { code, len }
-}
-
-fn open_settings(command: &mut [u8]) -> Given {
-    let mut len = UNSET;
-    let code = uaf_write_open_settings(command, &mut len);
-    Given { code, len }
+        len,
+    )
 }
 
 // Writes the command whose number is in the slot of the kind.
-fn write_kind(mem: &[u8], command: &mut [u8]) -> Given {
-    let kind = number(mem, KIND);
-    match kind {
-        0 => get_info(command),
-        1 => register(mem, command),
-        2 => sign(mem, command),
-        3 => deregister(mem, command),
-        _ => open_settings(command),
-    }
-}
-
-// Writes a command into the first bytes of a stretch, says so and keeps it.
-fn write_in(rt: &impl Print, name: &[u8], mem: &mut [u8], output: &mut [u8]) -> io::Result<()> {
-    let n = number(mem, RESPONSE_LENGTH);
-    if output.len() < n {
-        return Ok(());
-    }
-    let command = &mut output[0..n];
-    let g = write_kind(mem, command);
-    rt.write_all(name)?;
-    rt.write_all(b": ")?;
-    write_given(rt, b"written", g.code, g.len, command)?;
-    rt.write_all(b"\n")?;
-    if g.code != 0 {
-        return Ok(());
-    }
-    store(command, g.len, COMMAND, mem);
-    Ok(())
+fn write_kind(slots: &Slots, command: &mut [u8]) -> Given {
+    let mut len = UNSET;
+    let code = match slots.number(Slot::Kind) {
+        0 => uaf_write_get_info(command, &mut len),
+        1 => register(slots, command, &mut len),
+        2 => sign(slots, command, &mut len),
+        3 => deregister(slots, command, &mut len),
+        _ => uaf_write_open_settings(command, &mut len),
+    };
+    Given { code, len }
 }
 
 // Writes a command into an output of its own, writes its line and keeps the command to be run.
-pub fn write(rt: &impl Print, name: &[u8], mem: &mut [u8]) -> io::Result<()> {
+pub fn write(rt: &impl Print, name: &[u8], slots: &mut Slots) -> io::Result<()> {
     let mut output = [FILL; MOST];
-    write_in(rt, name, mem, &mut output)
+    let Some(command) = output.get_mut(..slots.length(Slot::ResponseLength)) else {
+        return Ok(());
+    };
+    let given = write_kind(slots, command);
+    rt.write_all(name)?;
+    print!(rt; ": ")?;
+    given.tell(rt, "written", command)?;
+    println!(rt)?;
+    if let Some(written) = given.written(command) {
+        slots.store(Slot::Command, written);
+    }
+    Ok(())
 }

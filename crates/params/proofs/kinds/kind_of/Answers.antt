@@ -1,4 +1,5 @@
 -- The five tags name the five commands; any other, or fewer than four bytes, names none.
+use borrow.Author.Rules.{rules}
 use Rattle.params.proofs.KindLaws.{kind-short, kind-named, kind_none}
 use Rattle.params.proofs.kinds.kind_of.Goals as goal
 
@@ -21,4 +22,4 @@ pub returns-in-13318 : goal.returns-in-13318
 returns-in-13318 c = kind-named _ c.if-s-lt4.false c.get16.ensures.value c.in-13318.is
 
 pub returns-in_default : goal.returns-in_default
-returns-in_default c = kind_none _ c.if-s-lt4.false c.get16.ensures.value c.in_default.in_default-own.rest
+returns-in_default c = kind_none _ c.if-s-lt4.false c.get16.ensures.value (search rules)

@@ -13,10 +13,10 @@ module _ (s : List ℕ) (a b i : ℕ) where
   unfolding adler_from
   at-end h = rw (drop_of_length-le s h)
 
-pub loop-i-preserved : goal.loop-i-preserved
-loop-i-preserved c =
-    let e = one_more _ _ _ _ c.loop-i-test.true in
-    (search rules, search rules, search rules, rw c.wide.ensures.0 (c.loop-i.invariant.3 ∙ e))
+pub loop-x-preserved : goal.loop-x-preserved
+loop-x-preserved c =
+    let e = one_more _ _ _ _ c.loop-x-test.true in
+    (search rules, search rules, rw c.from.ensures (c.loop-x.invariant.2 ∙ e))
 
 pub returns : goal.returns
-returns c = sym (c.loop-i.invariant.3 ∙ at-end c.args.s.now c.loop-i.a c.loop-i.b c.loop-i.i (omega arith))
+returns c = sym (c.loop-x.invariant.2 ∙ at-end c.args.s.now c.loop-x.a c.loop-x.b c.loop-x.x-index (omega arith))
