@@ -1,12 +1,12 @@
--- Verdicts and display results that have no status, Register's attestation type and last checks, and whether a field's value is empty.
+-- Register's attestation type and last checks, and whether a field's value is empty.
 -- Assumes nothing.
 use mathlib.Core.Path.{◌≡◌, refl, sym, ap, ◌∙◌}
-use Prim.Native.Nat.{ℕ, zero, suc, ◌+◌, ◌-◌, ◌≤◌}
+use Prim.Native.Nat.{ℕ, ◌+◌, ◌-◌, ◌≤◌}
 use mathlib.Core.Bool.{Bool, true, false, cond, ◌||◌}
-use mathlib.Core.List.{List, [], ◌∷◌}
+use mathlib.Core.List.{List}
 use native.Mathlib.Omega.{arith}
 use lib.Dec.{eqb, leb}
-use lib.ListN.{length, get_or}
+use lib.ListN.{length}
 use borrow.Author.Tests.{eq-eqb}
 use Rattle.model.specs.Lists.{empty}
 use Rattle.model.specs.Tlv.{num, Kind, Field, attestation_type, full, surrogate, register, broken, field_in}
@@ -20,27 +20,6 @@ use Rattle.tlv.proofs.NumberLaws.{num-between}
 use Rattle.tlv.proofs.HeadLaws.{length_part, part-empty}
 use Rattle.params.specs.Parse.{Placed, ParamsPlaced, ParamsRead}
 use Rattle.params.specs.declared.parse.Params.{Params}
-
--- ---- past the end of a list of statuses
-
--- x is none of the places of a list, the first of which is n, and what was known before
-abbrev pub NoPlace : Type 0 → ℕ → ℕ → List ℕ → Type 0
-NoPlace K x n [] = K
-NoPlace K x n (s ∷ ss) = NoPlace (K × (x ≡ n → ⊥)) x (suc n) ss
-
-known : (K : Type 0) (x n : ℕ) (ss : List ℕ) → NoPlace K x n ss → K
-known K x n [] h = h
-known K x n (s ∷ ss) h = (known _ x (suc n) ss h).0
-
-past_end : (K : Type 0) (x n k : ℕ) (ss : List ℕ) → x ≡ n + k → NoPlace K x n ss → get_or ss k 0 ≡ 0
-past_end K x n k [] e h = refl
-past_end K x n zero (s ∷ ss) e h = absurd ((known _ x (suc n) ss h).1 (omega (arith, e)))
-past_end K x n (suc k) (s ∷ ss) e h = past_end _ x (suc n) k ss (omega (arith, e)) h
-
--- the statuses begin with OK, at 0
-pub no_status : (ss : List ℕ) (x : ℕ) → NoPlace (Unit {0}) x 1 ss → 0 ≡ get_or (0 ∷ ss) x 0
-no_status ss zero h = refl
-no_status ss (suc k) h = sym (past_end (Unit {0}) (suc k) 1 k ss (omega arith) h)
 
 -- ---- a command whose parameters say that it breaks no rule
 

@@ -1,4 +1,4 @@
--- The laws of the commands: the statuses that their checks read, and what they decide.
+-- The laws of the commands: what their checks read, and what they decide.
 pub mod JudgeLaws
 pub mod DecisionLaws
 pub mod SignLaws

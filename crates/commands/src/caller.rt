@@ -26,6 +26,7 @@ fn looks_up(kind: Kind, broken: bool, verdict: u32) -> bool
 
 // The caller's mixed token: the hash of access token and AppID, where they lie. Nothing is hashed for a command that does not look at its caller's
 // records, for which zeros will do.
+#[tactic(auto, unfolding(model::specs::Commands::mixed_in))]
 pub fn mixed_token(kind: Kind, command: &[u8], params: Params, verdict: u32) -> [u8; 32]
     requires { ParamsRead (kind_is kind) command.now params }
     ensures { result ≡ mixed_for (kind_is kind) command.now verdict }

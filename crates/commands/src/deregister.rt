@@ -16,6 +16,7 @@ use stored_table::lookups::is_own;
 use tlv::heads::part_of;
 
 // Deregister's statuses in their order: a rule broken, then a KeyID that is not the caller's. An empty one always passes.
+#[tactic(auto, unfolding(model::specs::Commands::judge), using(crate::proofs::JudgeLaws::breaks_none))]
 fn judge_deregister(
     command: &[u8],
     params: Params,

@@ -28,6 +28,7 @@ fn is_supported(attestation: usize) -> bool
 }
 
 // Register's statuses in their order. They do not look at what is lent for the draft alone.
+#[tactic(auto, unfolding(model::specs::Commands::judge, model::specs::Commands::register_checks), using(crate::proofs::JudgeLaws::breaks_none))]
 fn judge_register(
     command: &[u8],
     params: Params,

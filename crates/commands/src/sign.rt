@@ -16,6 +16,7 @@ use stored_table::lookups::choose;
 use stored_table::records::count_of;
 
 // Sign's statuses before the choice: a rule broken, then the verdict.
+#[tactic(auto, unfolding(model::specs::Commands::judge))]
 fn judge_sign(broken: bool, verdict: u32) -> Result<(), Status>
     ensures { judged result ≡ judge (user_checks broken verdict) refused passed }
 {
@@ -29,6 +30,7 @@ fn judge_sign(broken: bool, verdict: u32) -> Result<(), Status>
 }
 
 // The display result, which counts with content only, then the counter, which rises by 1.
+#[tactic(auto, unfolding(model::specs::Commands::judge))]
 fn judge_one(content: bool, display: u32, count: u32) -> Result<u32, Status>
     ensures { judged result ≡ judge (one_checks content display count) refused (gave (count + 1)) }
 {

@@ -153,9 +153,6 @@ module _ (named : List ℕ) {y x : Shape} (e : y ≡ x) where
   unfolding reply_size
   size_by c p n t = rw e
 
-  pub short_by : {c p n : ℕ} {t : Table} → Short c p n t named y → ShortShape c p n x
-  short_by h = rw e at h.short_shape
-
   pub ready_by : {s : List ℕ} {l : Lent} {t : Table} {c : Params} → Ready s l t c named y → ReadyShape s l t c x
   ready_by h = rw e at h.ready_shape
 

@@ -1,7 +1,9 @@
 -- The statuses by their numbers.
 use Rattle.std.specs.Prelude.{ℕ}
 use Rattle.replies.specs.declared.status.Status.{Status}
-use Rattle.replies.specs.declared.status.Status.TheVariants.{Ok, ErrUnknown, AccessDenied, UserNotEnrolled, CannotRenderTransactionContent, UserCancelled, CmdNotSupported, AttestationNotSupported, ParamsInvalid, UserNotResponsive, InsufficientResources, UserLockout}
+use Rattle.replies.specs.declared.status.Status.TheVariants.{Ok, ErrUnknown, AccessDenied, UserNotEnrolled, CannotRenderTransactionContent}
+use Rattle.replies.specs.declared.status.Status.TheVariants.{UserCancelled, CmdNotSupported, AttestationNotSupported, ParamsInvalid}
+use Rattle.replies.specs.declared.status.Status.TheVariants.{UserNotResponsive, InsufficientResources, UserLockout}
 
 -- source document 001's number of each
 abbrev pub number : Status → ℕ

@@ -26,7 +26,8 @@ pub fn reply_len(
     table: &[u8],
     places: &[usize],
 ) -> usize
-    requires start_le_end { (challenge.start ≤ challenge.end) × Short (challenge.end - challenge.start) (length public_key.now) (length nonce.now) (table_in table.now) named.now shape }
+    requires start_le_end { (challenge.start ≤ challenge.end)
+        × Short (challenge.end - challenge.start) (length public_key.now) (length nonce.now) (table_in table.now) named.now shape }
     requires indexed { Indexed table.now places.now }
     ensures { result ≡ reply_size (challenge.end - challenge.start) (length public_key.now) (length nonce.now) (table_in table.now) named.now shape }
 {
@@ -61,7 +62,8 @@ pub fn write_reply(
 ) -> usize
     requires ready { Ready command.now lent.now (table_in table.now) params named.now shape }
     requires indexed { Indexed table.now places.now }
-    requires len_value { (len ≡ reply_size (challenge_len params) (length lent.now.public_key) (length lent.now.nonce) (table_in table.now) named.now shape) × (len ≤ length out.old) }
+    requires len_value { (len ≡ reply_size (challenge_len params) (length lent.now.public_key) (length lent.now.nonce) (table_in table.now) named.now shape)
+        × (len ≤ length out.old) }
     ensures { Wrote out.old 0 (bytes_of (answer_of (kind_is kind) command.now lent.now (table_in table.now) named.now shape)) len out.new result }
 {
     match shape {

@@ -4,7 +4,7 @@ use mathlib.Core.Bool.{true, false, ◌||◌}
 use lib.Dec.{leb}
 use lib.ListN.{length}
 use native.Mathlib.Omega.{arith}
-use borrow.Author.Tests.{ne_eqb, eq-eqb, le-leb, lt-leb}
+use borrow.Author.Tests.{eq-eqb, le-leb, lt-leb}
 use Rattle.model.specs.Lists.{among}
 use Rattle.model.specs.Records.{own, key_ids}
 use Rattle.model.specs.Commands.{judge, register_checks}
@@ -13,15 +13,6 @@ use Rattle.stored_table.proofs.IndexLaws.{length-places}
 use Rattle.commands.proofs.JudgeLaws.{breaks_none, placed, type-inside, type_told, Admitted, admitted}
 use Rattle.commands.proofs.register.judge_register.Goals as goal
 use Rattle.commands.proofs.register.judge_register.Goals.{Else-is_stored, Else-not-is_supported, Joined-then-own_count-ge-MAX_OWN, then-own_count-ge-MAX_OWN-via-then-own_count-ge-MAX_OWN, then-own_count-ge-MAX_OWN-via-else-own_count-ge-MAX_OWN+then-places-ge-MAX_RECORDS}
-
-pub returns-then-params : goal.returns-then-params
-unfolding judge register_checks
-returns-then-params c = rw (sym c.requires.params_read.broken-is ∙ c.if-params.true)
-
-pub returns-then-numbers-ne0 : goal.returns-then-numbers-ne0
-unfolding judge register_checks
-returns-then-numbers-ne0 c =
-    simp (breaks_none c.requires.params_read c.if-params.false, ne_eqb _ _ c.if-numbers-ne0.true, c.verdict_status.ensures)
 
 pub get16-requires : goal.get16-requires
 get16-requires c =

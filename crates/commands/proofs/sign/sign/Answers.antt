@@ -8,7 +8,7 @@ use Rattle.model.specs.Commands.{has_content}
 use Rattle.stored_table.specs.Stored.{table_in}
 use Rattle.stored_table.proofs.IndexLaws.{record-at, few-places}
 use Rattle.commands.proofs.JudgeLaws.{placed_empty}
-use Rattle.commands.proofs.SignLaws.{Chose, chose, sign_fails, sign-placed, handles_placed, none_chosen, one-chosen, several_chosen, one_placed}
+use Rattle.commands.proofs.SignLaws.{Chose, chose, sign_fails, sign-placed, none_chosen, one-chosen, several_chosen, one_placed}
 use Rattle.commands.proofs.sign.sign.Goals as goal
 use Rattle.commands.proofs.sign.sign.Goals.{After-choose-named}
 
@@ -24,19 +24,8 @@ found : (c : After-choose-named) → let a = c.args in
 found c =
     chose _ c.requires.params_read.0 c.in_ok-judge_sign.ensures c.requires.params_read.1 c.requires.indexed.ok c.choose-named.ensures
 
-pub choose-named-requires : goal.choose-named-requires
-choose-named-requires c =
-    record {
-      indexed = c.requires.indexed;
-      within = (handles_placed c.args.numbers c.requires.params_read.0 c.in_ok-judge_sign.ensures c.requires.params_read.1).inside;
-      chosen_len = c.requires.chosen_len;
-    }
-
 pub returns-in-0 : goal.returns-in-0
 returns-in-0 c = λ k. none_chosen (found (goal.at.returns-in-0 c).After-choose-named) c.in-0.is
-
-pub bounds-chosen-0 : goal.bounds-chosen-0
-bounds-chosen-0 c = omega (arith, (found (goal.at.bounds-chosen-0 c).After-choose-named).within, c.in-1.is)
 
 pub offset_bounds-places-i : goal.offset_bounds-places-i
 offset_bounds-places-i c =

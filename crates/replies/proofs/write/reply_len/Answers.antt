@@ -11,7 +11,7 @@ pub overflow_add-result : goal.overflow_add-result
 overflow_add-result c =
     omega (arith, c.pairs_len.ensures, named-most c.requires.indexed c.requires.start_le_end.1.named-there)
 
--- and that of signed data, with the transaction hash
+-- what the transaction hash takes
 hash_is : (c : After-len-in-Signed) → c.if-content.hash ≡ cond c.in-Signed.content 36 4
 hash_is c = elim c.if-content.branch [ then-content w ↦ rw w.if-content.true w.hash-is | else-content w ↦ rw w.if-content.false w.hash-is ]
 

@@ -32,28 +32,18 @@ returns-in-Info c =
     let size = c.requires.len_value.0 ∙ size_by _ e _ _ _ _ in
     rw (← c.lent.view_is) (wrote_by _ e _ _ _ _ (same (sym (info-is _)) (sym size) c.put_info.ensures))
 
-pub put_names-requires : goal.put_names-requires
-put_names-requires c =
-    let size = c.requires.len_value.0 ∙ size_by _ c.in-Names.is _ _ _ _ in
-    record { indexed = c.requires.indexed; chosen_of = c.requires.ready.named-there; len_value = (size, c.requires.len_value.1) }
+pub put_names-requires-clause-len_value : goal.put_names-requires-clause-len_value
+put_names-requires-clause-len_value c = (c.requires.len_value.0 ∙ size_by _ c.in-Names.is _ _ _ _, c.requires.len_value.1)
 
 pub returns-in-Names : goal.returns-in-Names
 returns-in-Names c =
     wrote_by _ c.in-Names.is _ _ _ _ c.put_names.ensures
 
-pub part_of-requires : goal.part_of-requires
-part_of-requires c =
-    (ready_by _ c.in-Registration.is c.requires.ready).quoted.challenge.inside
-
-pub put_krd-requires : goal.put_krd-requires
-put_krd-requires c =
+pub put_krd-requires-clause-len_value : goal.put_krd-requires-clause-len_value
+put_krd-requires-clause-len_value c =
     let e = c.in-Registration.is in
-    let g = ready_by _ e (rw (← c.lent.view_is) at c.requires.ready) in
     let size = (rw (← c.lent.view_is) at c.requires.len_value.0) ∙ size_by _ e _ _ _ _ in
-    record {
-      aaid_len = (g.aaid, rw c.part_of.ensures g.quoted.short, g.key-id, g.public-key);
-      len_value = (rw (c.part_of.ensures, length_part g.quoted.challenge.inside) size, c.requires.len_value.1);
-    }
+    (rw (c.part_of.ensures, length_part (ready_by _ e c.requires.ready).quoted.challenge.inside) size, c.requires.len_value.1)
 
 pub returns-in-Registration : goal.returns-in-Registration
 returns-in-Registration c =
@@ -78,13 +68,6 @@ returns-in-Signed c =
     let record-is = (there (goal.at.returns-in-Signed c).After-part_of-in-Signed).is in
     rw (← c.lent.view_is) (wrote_by _ e _ _ _ _ (rw (hash, shown, c.key_of.ensures, record-is) at c.put_signed_data.ensures))
 
-pub part_of-requires-in-Signed : goal.part_of-requires-in-Signed
-part_of-requires-in-Signed c = (ready_by _ c.in-Signed.is c.requires.ready).quoted.challenge.inside
-
-pub part_of-requires-in-Signed-2 : goal.part_of-requires-in-Signed-2
-part_of-requires-in-Signed-2 c =
-    (ready_by _ c.in-Signed.is c.requires.ready).quoted.content.inside
-
 pub offset_bounds-places-record : goal.offset_bounds-places-record
 offset_bounds-places-record c = omega (arith, below (goal.at.offset_bounds-places-record c).After-part_of-in-Signed, few-places c.requires.indexed)
 
@@ -94,8 +77,9 @@ put_signed_data-requires c =
     let g = ready_by _ e (rw (← c.lent.view_is) at c.requires.ready) in
     let size = (rw (← c.lent.view_is) at c.requires.len_value.0) ∙ size_by _ e _ _ _ _ in
     let part = c.part_of-in-Signed.ensures in
+    let stands = (there (goal.at.put_signed_data-requires c).After-part_of-in-Signed).stands in
     record {
-      aaid_len = (g.aaid, g.nonce, rw part g.quoted.short, key_length _ _ (there (goal.at.put_signed_data-requires c).After-part_of-in-Signed).stands c.key_of.ensures);
+      aaid_len = (g.aaid, g.nonce, rw part g.quoted.short, key_length _ _ stands c.key_of.ensures);
       len_value = (rw (part, length_part g.quoted.challenge.inside) size, c.requires.len_value.1);
     }
 
