@@ -10,24 +10,24 @@ use native.Mathlib.Omega.{arith}
 use lib.Dec.{ltb}
 use lib.ListN.{length}
 use borrow.Author.Tests.{ltb-true, ltb-false}
+use Rattle.std.specs.Prelude.{Ok, Err}
 use Rattle.model.specs.Tlv as tlv
 use Rattle.model.specs.Tlv.{broken}
-use Rattle.model.specs.Records.{Table, max_stored, encode, table_ok}
+use Rattle.model.specs.Records.{Table, max_stored, encode, decode, table_ok}
 use Rattle.model.specs.Commands.{Lent, least_output, short_output, stored, table_of, lent_ok, Result, refused, gave, Effect, apply, perform, Answer, bytes_of, Outputs, outputs}
 use Rattle.model.proofs.Basics.{split, either, or_left, or_right}
 use Rattle.model.proofs.LentLaws.{lent_rules}
 use Rattle.tlv.specs.Writing.{Wrote}
 use Rattle.tlv.proofs.WriteLaws.{front}
-use Rattle.params.specs.Kinds.{named_as}
+use Rattle.fields.specs.Refusals.{number}
+use Rattle.fields.specs.declared.refusals.Refusal.{Refusal}
 use Rattle.params.specs.Lent.{lent_of, call}
 use Rattle.params.specs.Parse.{ParamsRead}
-use Rattle.params.specs.declared.kinds.Named.{Named}
 use Rattle.params.specs.declared.lent.Numbers.{Numbers}
 use Rattle.params.specs.declared.parse.Params.{Params}
 use Rattle.stored_table.specs.Stored.{table_in}
-use Rattle.stored_table.specs.Index.{IndexIs}
+use Rattle.stored_table.specs.Index.{IndexOf}
 use Rattle.stored_table.specs.Changes.{change_of}
-use Rattle.stored_table.specs.declared.index.Index.{Index}
 use Rattle.replies.specs.Replies as replies
 use Rattle.replies.specs.Replies.{answer_of, challenge_len, reply_size, Ready, Short}
 use Rattle.replies.specs.declared.reply.Shape.{Shape}
@@ -37,15 +37,19 @@ use Rattle.commands.specs.Decisions.{named_by, Decides}
 use Rattle.commands.proofs.CallerLaws.{performed_for_caller}
 use Rattle.commands.specs.declared.decision.Decision.{Decision}
 use Rattle.authenticator.specs.Outcomes.{is_draft, outputs_of, Ended, ended, ends}
-use Rattle.authenticator.specs.declared.outcome.Outcome.TheVariants.{Refused, Gave}
+use Rattle.authenticator.specs.declared.outcome.Gave.{Gave}
+
+-- what the code says of a call that is not refused
+abbrev pub gives : Bool → ℕ → ℕ → Gave
+gives d n m = record { draft = d; response_len = n; table_len = m }
 
 -- ---- refusals
 
 -- a refusal leaves both outputs as they came
-pub ends-refused : {o : Result Effect} (n : ℕ) (out tab : List ℕ) → o ≡ refused n
-    → ended (Refused n) out tab ≡ ends o (outputs_of out tab)
+pub ends-refused : {o : Result Effect} (r : Refusal) (out tab : List ℕ) → o ≡ refused (number r)
+    → ended (Err r) out tab ≡ ends o (outputs_of out tab)
 unfolding ends outputs
-ends-refused n out tab e = rw e
+ends-refused r out tab e = rw e
 
 -- a call ends as what it gives does
 pub ends_same : {o q : Result Effect} {x : Ended} (z : Outputs) → o ≡ q → x ≡ ends q z → x ≡ ends o z
@@ -61,17 +65,13 @@ long_enough n m e h =
     (ltb-false _ _ (or_left _ _ k), ltb-false _ _ (or_right (ltb n least_output) _ k))
 
 -- a stored table whose index was found, or not
-pub read_is : (s : List ℕ) {places : List ℕ} {i : Index} → IndexIs s places i → i.ok ≡ true → table_of (stored s) ≡ some (table_in s)
+pub read_is : {s places : List ℕ} {n : ℕ} → IndexOf s places n → table_of (stored s) ≡ some (table_in s)
 unfolding table_of
-read_is s p e = p.view ∙ rw e
+read_is x = x.view
 
-pub not_read : (s : List ℕ) {places : List ℕ} {i : Index} → IndexIs s places i → i.ok ≡ false → table_of (stored s) ≡ none
+pub not_read : (s : List ℕ) → decode s ≡ none → table_of (stored s) ≡ none
 unfolding table_of
-not_read s p e = p.view ∙ rw e
-
--- the kind that a command is named as
-pub kind-named : {r arm : Named} {o : Option tlv.Kind} → r ≡ arm → named_as r ≡ o → o ≡ named_as arm
-kind-named e h = sym h ∙ ap named_as e
+not_read s e = e
 
 -- ---- what is asked where a command is performed
 
@@ -117,7 +117,7 @@ module _ {k : tlv.Kind} {s : List ℕ} {n : Numbers} {m key : List ℕ} {t : Tab
   -- a reply and a table that were written as they were decided
   pub ends-gave : m ≡ mixed_for k s n.verdict → (o : ℕ) (u : Option ℕ) {b : Bool} {len left r : ℕ} {out out' tab tab' : List ℕ} → b ≡ replies.is_draft d.shape
       → Wrote out 0 (bytes_of answer) len out' r → Wrote tab 0 (encode (apply m (change_of s key t d.change) t)) left tab' left
-      → ended (Gave b len left) out' tab' ≡ ends (gave (perform k (call s l o u) t)) (outputs_of out tab)
+      → ended (Ok (gives b len left)) out' tab' ≡ ends (gave (perform k (call s l o u) t)) (outputs_of out tab)
   unfolding ends outputs
   ends-gave caller o u {b} f w v =
       let g : is_draft answer ≡ b = draft-told k s l t (named_by chosen d) d.shape ∙ sym f in

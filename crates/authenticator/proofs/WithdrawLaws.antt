@@ -4,10 +4,10 @@ use mathlib.Core.Path.{◌≡◌, refl, ap, ◌∙◌}
 use mathlib.Core.Bool.{Bool, true, false, cond, ◌&&◌}
 use mathlib.Core.List.{List, [], ◌∷◌}
 use mathlib.Core.Option.{some, get_or}
-use Prim.Native.Nat.{ℕ, ◌-◌, ◌≤◌, ◌<◌}
+use Prim.Native.Nat.{ℕ, ◌≤◌, ◌<◌}
 use native.Mathlib.Omega.{arith}
-use native.Mathlib.Nat.{sub-zero}
-use lib.ListN.{length, take}
+use lib.ListN.{length}
+use Rattle.std.specs.Prelude.{Err}
 use Rattle.model.specs.Tlv.{fits, key_id, mixed_token}
 use Rattle.model.specs.Records.{Table, own, max_stored, encode}
 use Rattle.model.specs.Commands.{check, judge, refused, gave, Given, table_of, on_gave, remove, apply}
@@ -15,19 +15,16 @@ use Rattle.model.specs.Withdrawals.{Withdrawal, withdrawal_checks, withdraw}
 use Rattle.model.proofs.Basics.{clash}
 use Rattle.model.proofs.WithdrawalLaws.{withdraw-short, both_fit, fit_both, withdraw-wrongly, withdraw-looks}
 use Rattle.fields.specs.Refusals.{ended, ends}
-use Rattle.fields.specs.declared.refusals.Written.TheVariants as written
+use Rattle.fields.specs.declared.refusals.Refusal.TheVariants.{ShortOutput}
 use Rattle.fields.proofs.RefusalLaws.{ends-refused}
-use Rattle.stored_table.specs.Stored.{Indexed}
-use Rattle.stored_table.specs.Index.{IndexIs}
 use Rattle.stored_table.specs.Changes.{removal}
 use Rattle.stored_table.specs.Newest.{withdrawable}
-use Rattle.stored_table.specs.declared.index.Index.{Index}
 use Rattle.authenticator.specs.Withdrawing.{withdrawal}
 
 -- refusal 1 as it is told, with the output as it came
 pub short_told : (m k out : List ℕ) (g : Given) → length out < max_stored
-    → ended (written.Refused 1) out ≡ ends (on_gave encode (withdraw (withdrawal m k (some (length out))) g)) out
-short_told m k out g h = ends-refused 1 (ap (on_gave encode) (withdraw-short _ g h))
+    → ended (Err ShortOutput) out ≡ ends (on_gave encode (withdraw (withdrawal m k (some (length out))) g)) out
+short_told m k out g h = ends-refused ShortOutput (ap (on_gave encode) (withdraw-short _ g h))
 
 -- three checks that say the same
 says_once : {A : Type 0} (n : ℕ) (says : ℕ → A) (passed : A) (a b c : Bool) → let cs = check n a ∷ check n b ∷ check n c ∷ [] in
@@ -47,10 +44,6 @@ by_newest k mine says passed = says_once 7 says passed _ _ _
 one_removed : (k : List ℕ) → length k ≡ 32 → removal k ≡ remove k
 one_removed [] h = absurd (omega arith)
 one_removed (x ∷ k) h = refl
-
--- the places of the records, as a part of those that were lent
-pub places_found : {s places : List ℕ} {i : Index} → IndexIs s places i → i.ok ≡ true → Indexed s (take (i.len - 0) places)
-places_found {i = i} x e = rw (sub-zero i.len) (x.indexed e)
 
 -- both lengths, as they are tested one after the other
 pub not-sized : (m k : List ℕ) {a : Bool} → a ≡ fits mixed_token m → a ≡ false → false ≡ (fits mixed_token m && fits key_id k)

@@ -1,11 +1,7 @@
-// What a call says: one refusal, by its number; or what was written: a response or a draft, of this length, and the stored form of the table left, of
-// that length.
-#[derive(Clone, Copy)]
-pub enum Outcome {
-    Refused(u32),
-    Gave {
-        draft: bool,
-        response_len: usize,
-        table_len: usize,
-    },
+// What a call says that is not refused: whether it wrote a response or a draft, of this length, and how long the stored form of the table left is.
+#[derive(Clone, Copy, Debug, PartialEq, Eq)]
+pub struct Gave {
+    pub draft: bool,
+    pub response_len: usize,
+    pub table_len: usize,
 }

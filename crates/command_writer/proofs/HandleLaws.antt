@@ -1,16 +1,16 @@
 -- Key handles that run together: the lengths beside them are all 32 and add up, and the handles stand one after another.
 -- Assumes nothing.
 use mathlib.Core.Path.{◌≡◌, refl, ap, ◌∙◌}
-use mathlib.Core.Bool.{Bool, true, false}
+use mathlib.Core.Bool.{Bool, true, ◌&&◌}
 use mathlib.Core.List.{List, [], ◌∷◌, ◌++◌, map}
 use mathlib.Core.Option.{none, some}
 use Prim.Native.Nat.{ℕ, zero, suc, ◌+◌, ◌*◌, ◌-◌, ◌≤◌, ◌<◌}
-use native.Mathlib.Numerals.{add-one}
 use native.Mathlib.Omega.{arith}
-use lib.ListN.{length, get_or, take, drop, length-append, length-map, length-drop, drop_of_length-le}
-use lib.Seq.{length-take-le, drop-cons, drop-drop}
+use lib.ListN.{length, take, drop, length-append, length-map, length-drop}
+use lib.Seq.{length-take-le, drop-drop}
 use lib.Dec.{leb, eqb}
-use borrow.Author.Tests.{leb-true, le-leb, eqb-true, eq-eqb, ne_eqb}
+use borrow.Author.Tests.{leb-true, le-leb, eqb-true, eq-eqb}
+use Rattle.std.specs.List.{list_all}
 use Rattle.model.specs.Lists.{all}
 use Rattle.model.specs.Tlv.{tlv, bytes, max_command, key_handle, fits, times_allowed, up_to}
 use Rattle.model.specs.Writer.{Values, pieces, tlvs_for, values_ok}
@@ -26,16 +26,10 @@ use Rattle.command_writer.proofs.LengthLaws.{takes-ok, takes-not, obeys}
 abbrev pub whole : List ℕ → Bool
 whole ns = all (λ n. eqb n 32) ns
 
-module _ (ns : List ℕ) (i : ℕ) where
-  pub whole-end : length ns ≤ i → whole (drop i ns) ≡ true
-  whole-end h = rw (drop_of_length-le ns h)
-
-  module _ (h : i < length ns) where
-    pub whole-not : (get_or ns i 0 ≡ 32 → ⊥) → whole (drop i ns) ≡ false
-    whole-not e = rw (drop-cons ns i 0 h, ne_eqb (get_or ns i 0) 32 e)
-
-    pub whole-more : get_or ns i 0 ≡ 32 → whole (drop i ns) ≡ whole (drop (i + 1) ns)
-    whole-more e = rw (drop-cons ns i 0 h, add-one, eq-eqb (get_or ns i 0) 32 e)
+-- the same asked by the library's walk
+pub whole-all : (ns : List ℕ) → list_all (λ n. eqb n 32) ns ≡ whole ns
+whole-all [] = refl
+whole-all (n ∷ ns) = ap (λ b. eqb n 32 && b) (whole-all ns)
 
 -- ---- such lengths, and a stretch that is as long as they say
 

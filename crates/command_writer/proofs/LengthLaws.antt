@@ -19,7 +19,11 @@ use Rattle.model.proofs.LayoutLaws.{fits-most}
 use Rattle.model.proofs.WriterLaws as written
 use Rattle.model.proofs.WriterLaws.{Breaks, refuses_6, refuses_1}
 use Rattle.params.specs.Slots.{command_fields, slot_field}
-use Rattle.command_writer.specs.Lengths.{takes, takes_all, too_long, refusal_of}
+use Rattle.std.specs.Prelude.{Ok, Err}
+use Rattle.fields.specs.declared.refusals.Refusal.{Refusal}
+use Rattle.fields.specs.declared.refusals.Refusal.TheVariants.{ShortOutput, BadField}
+use Rattle.fields.specs.Refusals as refusals
+use Rattle.command_writer.specs.Lengths.{takes, takes_all, too_long, check_len}
 use Rattle.command_writer.specs.Parts.{given_tlvs, given_size}
 
 -- ---- one field
@@ -150,29 +154,30 @@ module _ (k : Kind) (vss : List Values) {n : ℕ} (e : n ≡ 4 + takes_all (fiel
     unfolding writable
     passes = both each-ok (le-leb (length (command_of k vss)) max_command (omega (arith, command-length each-ok)))
 
-  module _ (out : ℕ) {r : ℕ} (i : r ≡ refusal_of n out) where
-    pub refuses : (r ≡ 0 → ⊥) → write_values k vss out ≡ refused r
-    unfolding refusal_of
-    refuses h =
+  module _ (out : ℕ) where
+    pub refuses : (r : Refusal) → Err r ≡ check_len n out → write_values k vss out ≡ refused (refusals.number r)
+    unfolding check_len
+    refuses r i =
         split (ltb max_command n)
-        (λ m. let j : r ≡ 6 = rw m at i in rw j (refuses_6 k vss out (breaks (ltb-true _ _ m))))
+        (λ m. let j = rw m at i in let e : r ≡ BadField = cc in rw e (refuses_6 k vss out (breaks (ltb-true _ _ m))))
         (λ m.
         split (ltb out n)
-        (λ o. let j : r ≡ 1 = rw (m, o) at i in let p = ltb-false _ _ m in
-        rw j (refuses_1 k vss out (passes p) (rw (command-length (each-ok p)) (ltb-true _ _ o))))
-        (λ o. absurd (h (rw (m, o) at i))))
+        (λ o. let j = rw (m, o) at i in let e : r ≡ ShortOutput = cc in let p = ltb-false _ _ m in
+        rw e (refuses_1 k vss out (passes p) (rw (command-length (each-ok p)) (ltb-true _ _ o))))
+        (λ o. let j = rw (m, o) at i in absurd cc))
 
-    pub accepts : r ≡ 0 → (n ≤ max_command) × (n ≤ out)
-    unfolding refusal_of
-    accepts h =
-        split (ltb max_command n)
-        (λ m. let j : r ≡ 6 = rw m at i in absurd (omega arith))
-        (λ m.
-        split (ltb out n)
-        (λ o. let j : r ≡ 1 = rw (m, o) at i in absurd (omega arith))
-        (λ o. (ltb-false _ _ m, ltb-false _ _ o)))
+    module _ {u : Unit {0}} (i : Ok u ≡ check_len n out) where
+      pub accepts : (n ≤ max_command) × (n ≤ out)
+      unfolding check_len
+      accepts =
+          split (ltb max_command n)
+          (λ m. let j = rw m at i in absurd cc)
+          (λ m.
+          split (ltb out n)
+          (λ o. let j = rw (m, o) at i in absurd cc)
+          (λ o. (ltb-false _ _ m, ltb-false _ _ o)))
 
-    pub writes : r ≡ 0 → write_values k vss out ≡ gave (command_of k vss)
-    writes h =
-        let a = accepts h in
-        written.writes k vss out (passes a.0) (rw (command-length (each-ok a.0)) a.1)
+      pub writes : write_values k vss out ≡ gave (command_of k vss)
+      writes =
+          let a = accepts in
+          written.writes k vss out (passes a.0) (rw (command-length (each-ok a.0)) a.1)

@@ -1,27 +1,33 @@
 -- The writers' sums: they are the command's length, and the children written are those of its list.
 -- Assumes nothing.
-use mathlib.Core.Path.{◌≡◌}
-use mathlib.Core.List.{List, append-nil}
+use mathlib.Core.Path.{◌≡◌, refl, ap, ◌∙◌}
+use mathlib.Core.List.{List, [], ◌∷◌, append-nil}
 use Prim.Native.Nat.{ℕ, ◌+◌, ◌*◌, ◌≤◌}
 use native.Mathlib.Omega.{arith}
 use lib.ListN.{length}
-use Rattle.model.specs.Tlv.{Tlv, max_command, app_id, challenge_hash, username, attestation_type, access_token, key_handle, key_id_or_none, user_verify_token, transaction_content, Kind, register, sign, deregister, open_settings, mandatory, optional, up_to, fields_of}
-use Rattle.model.specs.Writer.{Values, one, marked, number, pieces, to_register, to_sign, to_deregister, to_open_settings, wanted_values, command, children_for, command_of}
-use Rattle.command_writer.specs.Lengths.{takes, takes_all}
+use Rattle.std.specs.Prelude.{Ok, Err}
+use Rattle.model.specs.Tlv.{Tlv, tlv, get_info, max_command, app_id, challenge_hash, username, attestation_type, access_token, key_handle, key_id_or_none, user_verify_token, transaction_content, Kind, register, sign, deregister, open_settings, mandatory, optional, up_to}
+use Rattle.model.specs.Writer.{Values, one, marked, number, pieces, to_register, to_sign, to_deregister, to_open_settings, wanted_values, command, children_for, command_of, write_values}
+use Rattle.model.specs.Commands.{gave}
+use Rattle.tlv.specs.Writing.{Wrote}
+use Rattle.fields.specs.Refusals.{ended, ends}
+use Rattle.fields.proofs.RefusalLaws.{ends-refused, ends-wrote}
+use Rattle.fields.specs.declared.refusals.Refusal.{Refusal}
+use Rattle.command_writer.specs.Lengths.{takes, takes_all, Counts, check_len}
 use Rattle.command_writer.specs.Parts.{given_size, register_tlvs, sign_tlvs, deregister_tlvs}
-use Rattle.command_writer.proofs.LengthLaws.{one_size, marked-size, marked-tlvs, number_size, number-tlvs, index-takes}
+use Rattle.command_writer.proofs.LengthLaws.{one_size, marked-size, marked-tlvs, number_size, number-tlvs, index-takes, refuses, accepts, writes}
 use Rattle.command_writer.proofs.HandleLaws.{handles-size, handles-take, handles-children}
 
--- the index alone
-pub settings_sum : 9 ≡ 4 + takes_all (fields_of open_settings) (wanted_values to_open_settings)
-unfolding takes_all
-settings_sum = omega (arith, index-takes)
+-- ---- what each command's sum counts
 
--- a sum n of what the fields take, for a command that has so many bytes and these children where it is not too long
-pub record Counts (k : Kind) (vss : List Values) (n size : ℕ) (ts : List Tlv) : Type 0 where
-  pub total : n ≡ 4 + takes_all (fields_of k) vss
-  pub sizes : n ≤ max_command → n ≡ size
-  pub children : n ≤ max_command → command_of k vss ≡ command k ts
+pub info_counts : Counts get_info [] 4 4 []
+unfolding takes_all command_of children_for
+info_counts = record { total = refl; sizes = λ m. refl; children = λ m. refl }
+
+-- the index alone
+pub settings_counts : Counts open_settings (wanted_values to_open_settings) 9 9 (tlv 0x280D (0 ∷ []) ∷ [])
+unfolding takes_all command_of children_for
+settings_counts = record { total = omega (arith, index-takes); sizes = λ m. refl; children = λ m. refl }
 
 pub register_counts : (ma : ℕ) (a c u : List ℕ) (t : ℕ) (k : List ℕ) (mv : ℕ) (v : List ℕ) {x₁ x₂ x₃ x₄ x₅ x₆ : ℕ}
     → x₁ ≡ takes (optional app_id) (marked ma a) → x₂ ≡ takes (mandatory challenge_hash) (one c) → x₃ ≡ takes (mandatory username) (one u)
@@ -97,3 +103,16 @@ deregister_counts ma a i k e₁ e₂ e₃ =
           omega (arith, marked-size app_id a ma (omega arith), one_size key_id_or_none i (omega arith), one_size access_token k (omega arith));
       children = λ m. rw (marked-tlvs app_id a ma);
     }
+
+-- ---- what a writer says by its sum
+
+module _ {k : Kind} {vss : List Values} {n size : ℕ} {ts : List Tlv} (c : Counts k vss n size ts) where
+  pub count_refuses : {out : List ℕ} (r : Refusal) → Err r ≡ check_len n (length out) → ended (Err r) out ≡ ends (write_values k vss (length out)) out
+  count_refuses {out} r e = ends-refused r (refuses k vss c.total (length out) r e)
+
+  pub count_room : {room : ℕ} {u : Unit {0}} → Ok u ≡ check_len n room → (n ≤ max_command) × ((n ≡ size) × (n ≤ room))
+  count_room e = let a = accepts k vss c.total _ e in (a.0, (c.sizes a.0, a.1))
+
+  pub count_writes : {out out' : List ℕ} {r : ℕ} {u : Unit {0}} → Ok u ≡ check_len n (length out) → Wrote out 0 (command k ts) n out' r
+      → ended (Ok r) out' ≡ ends (write_values k vss (length out)) out
+  count_writes {out} e w = ends-wrote (writes k vss c.total (length out) e ∙ ap gave (c.children (count_room e).0)) w

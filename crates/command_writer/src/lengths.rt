@@ -2,20 +2,15 @@
 // sum finds every reason for refusal 6. And the refusal by that sum.
 ghost use Rattle.std.specs.Prelude.{◌≡◌, ◌≤◌, eqb};
 ghost use Rattle.model.specs.Lists.{all};
-ghost use Rattle.model.specs.Tlv.{mandatory, optional, up_to, attestation_type, key_handle};
-ghost use Rattle.model.specs.Writer.{one, marked, number, pieces};
+ghost use Rattle.model.specs.Tlv.{mandatory, up_to, attestation_type, key_handle};
+ghost use Rattle.model.specs.Writer.{one, number, pieces};
 ghost use Rattle.params.specs.Slots.{slot_field};
-ghost use Rattle.command_writer.specs.Lengths.{takes, refusal_of};
+ghost use Rattle.command_writer.specs.Lengths.{takes, check_len};
 
 use fields::MAX_COMMAND;
-use fields::refusals::{BAD_FIELD, SHORT_OUTPUT};
+use fields::refusals::Refusal;
 use params::kinds::slot_fits;
 use params::parse::MOST_HANDLES;
-
-// A mark beside a field that may be left away. Any other number is no mark.
-const NOT_GIVEN: u32 = 0;
-
-pub const GIVEN: u32 = 1;
 
 // A header, and a header with a number of 16 bits.
 const HEADER: usize = 4;
@@ -30,7 +25,7 @@ pub const HANDLE: usize = 32;
 const HEADER_AND_HANDLE: usize = 36;
 
 // Of a field that breaks its rule.
-const TOO_LONG: usize = MAX_COMMAND + 1;
+pub const TOO_LONG: usize = MAX_COMMAND + 1;
 
 // A field that must be given.
 pub fn one_len(slot: usize, v: &[u8]) -> usize
@@ -40,20 +35,6 @@ pub fn one_len(slot: usize, v: &[u8]) -> usize
         return TOO_LONG;
     }
     HEADER + v.len()
-}
-
-// A field that may be left away.
-#[tactic(auto, using(crate::proofs::LengthLaws::by_mark))]
-pub fn marked_len(slot: usize, mark: u32, v: &[u8]) -> usize
-    ensures { (result ≡ takes (optional (slot_field slot)) (marked mark v.now)) × (result ≤ 8196) }
-{
-    if mark == NOT_GIVEN {
-        return 0;
-    }
-    if mark != GIVEN {
-        return TOO_LONG;
-    }
-    one_len(slot, v)
 }
 
 // The attestation type.
@@ -71,14 +52,7 @@ pub fn type_len(n: u32) -> usize
 fn are_whole(sizes: &[usize]) -> bool
     ensures { result ≡ all (λ n. eqb n 32) sizes.now }
 {
-    let mut i = 0;
-    while i < sizes.len() {
-        if sizes[i] != HANDLE {
-            return false;
-        }
-        i += 1;
-    }
-    true
+    sizes.iter().all(|n| *n == HANDLE)
 }
 
 // Key handles run together, with the length of each.
@@ -97,15 +71,15 @@ pub fn handles_len(handles: &[u8], sizes: &[usize]) -> usize
     HEADER_AND_HANDLE * sizes.len()
 }
 
-// The refusal of a command of so many bytes, into an output of so many; 0 for none.
-pub fn refusal_of(len: usize, room: usize) -> u32
-    ensures { result ≡ refusal_of len room }
+// The refusal of a command of so many bytes, into an output of so many.
+pub fn check_len(len: usize, room: usize) -> Result<(), Refusal>
+    ensures { result ≡ check_len len room }
 {
     if MAX_COMMAND < len {
-        return BAD_FIELD;
+        return Err(Refusal::BadField);
     }
     if room < len {
-        return SHORT_OUTPUT;
+        return Err(Refusal::ShortOutput);
     }
-    0
+    Ok(())
 }

@@ -3,5 +3,6 @@
 #![tactic(auto)]
 
 mod lengths;
+pub mod marked;
 mod parts;
 pub mod writers;

@@ -1,9 +1,8 @@
-ghost use Rattle.std.specs.Prelude.{◌+◌, ◌≤◌, [], length};
-ghost use Rattle.model.specs.Tlv.{full, surrogate};
+ghost use Rattle.std.specs.Prelude.{◌≡◌, ◌+◌, ◌≤◌, [], length};
 ghost use Rattle.model.specs.Commands.{least_output};
 ghost use Rattle.model.specs.Complete.{completed};
 ghost use Rattle.tlv.specs.Writing.{Wrote};
-ghost use Rattle.completion.specs.Completions.{completion, opening};
+ghost use Rattle.completion.specs.Completions.{completion, opening, certificate_size};
 
 use fields::tags;
 use replies::status::{OK, put_start};
@@ -35,30 +34,30 @@ pub fn put_sign(out: &mut [u8], draft: &[u8], signature: &[u8]) -> usize
     put_tlv(out, a2, tags::SIGNATURE, signature)
 }
 
-// The response to a Register with full attestation: the certificate stands after the signature.
-pub fn put_full(out: &mut [u8], draft: &[u8], signature: &[u8], certificate: &[u8]) -> usize
-    requires { (30 + (length draft.now + (length signature.now + length certificate.now)) ≤ least_output) × (least_output ≤ length out.old) }
-    ensures { Wrote out.old 0 (completed (completion 0 draft.now full signature.now certificate.now 0)) result out.new result }
+// How many bytes the certificate takes: only a full attestation has one.
+fn certificate_len(attestation: usize, certificate: &[u8]) -> usize
+    requires { length certificate.now ≤ least_output }
+    ensures { result ≡ certificate_size attestation (length certificate.now) }
 {
-    let n = 4 + signature.len() + (4 + certificate.len());
-    let a1 = put_opening(
-        out,
-        tags::REGISTER_CMD_RESPONSE,
-        tags::REG_ASSERTION,
-        draft.len() + (4 + n),
-    );
-    let a2 = put_bytes(out, a1, draft);
-    let a3 = put_header(out, a2, tags::BASIC_FULL, n);
-    let a4 = put_tlv(out, a3, tags::SIGNATURE, signature);
-    put_tlv(out, a4, tags::CERT, certificate)
+    if attestation == tags::BASIC_FULL {
+        4 + certificate.len()
+    } else {
+        0
+    }
 }
 
-// The response to a Register with surrogate attestation.
-pub fn put_surrogate(out: &mut [u8], draft: &[u8], signature: &[u8]) -> usize
-    requires { (26 + (length draft.now + length signature.now) ≤ least_output) × (least_output ≤ length out.old) }
-    ensures { Wrote out.old 0 (completed (completion 0 draft.now surrogate signature.now [] 0)) result out.new result }
+// The response to a Register: in the attestation tag stands the signature and, where the attestation is full, the certificate after it.
+pub fn put_registration(
+    out: &mut [u8],
+    draft: &[u8],
+    attestation: usize,
+    signature: &[u8],
+    certificate: &[u8],
+) -> usize
+    requires { (30 + (length draft.now + (length signature.now + length certificate.now)) ≤ least_output) × (least_output ≤ length out.old) }
+    ensures { Wrote out.old 0 (completed (completion 0 draft.now attestation signature.now certificate.now 0)) result out.new result }
 {
-    let n = 4 + signature.len();
+    let n = 4 + signature.len() + certificate_len(attestation, certificate);
     let a1 = put_opening(
         out,
         tags::REGISTER_CMD_RESPONSE,
@@ -66,6 +65,10 @@ pub fn put_surrogate(out: &mut [u8], draft: &[u8], signature: &[u8]) -> usize
         draft.len() + (4 + n),
     );
     let a2 = put_bytes(out, a1, draft);
-    let a3 = put_header(out, a2, tags::BASIC_SURROGATE, n);
-    put_tlv(out, a3, tags::SIGNATURE, signature)
+    let a3 = put_header(out, a2, attestation, n);
+    let a4 = put_tlv(out, a3, tags::SIGNATURE, signature);
+    if attestation != tags::BASIC_FULL {
+        return a4;
+    }
+    put_tlv(out, a4, tags::CERT, certificate)
 }

@@ -1,12 +1,11 @@
 -- What a field's size says of a value.
 -- Assumes nothing.
-use mathlib.Core.Path.{◌≡◌, refl, sym, ap, ◌∙◌}
-use mathlib.Core.Bool.{Bool, true, false, not, ◌&&◌, and-true}
+use mathlib.Core.Path.{◌≡◌, refl, sym, ◌∙◌}
+use mathlib.Core.Bool.{Bool, true, false, ◌&&◌, and-true}
 use mathlib.Core.List.{List}
 use Prim.Native.Nat.{ℕ}
 use lib.ListN.{length}
 use lib.Dec.{leb}
-use borrow.Author.Tests.{not-true, not-false}
 use Rattle.model.specs.Tlv as model
 use Rattle.model.specs.Tlv.{rule_of, fits}
 use Rattle.fields.specs.Fields.{named, SizeIs}
@@ -31,11 +30,11 @@ module _ (f : model.Field) (v : List ℕ) {least most : ℕ} {b : Bool} (l : lea
   unfolding fits
   fits_allows = rw (e, l, m)
 
-  pub fits_not : not b ≡ true → fits f v ≡ false
-  fits_not h = fits_allows ∙ ap (λ c. c && (rule_of f).allowed v) (not-true b h)
+  pub fits_not : b ≡ false → false ≡ fits f v
+  fits_not h = sym (fits_allows ∙ rw h)
 
-  pub fits-rest : not b ≡ false → fits f v ≡ (rule_of f).allowed v
-  fits-rest h = fits_allows ∙ ap (λ c. c && (rule_of f).allowed v) (not-false b h)
+  pub fits-rest : {r : Bool} → b ≡ true → r ≡ (rule_of f).allowed v → r ≡ fits f v
+  fits-rest h i = i ∙ sym (fits_allows ∙ rw h)
 
 -- of these fields nothing else is asked
 pub fits-sized : (f : Field) (v : List ℕ) (r : Size) {b : Bool} → SizeIs f r → b ≡ (leb r.least (length v) && leb (length v) r.most) → b ≡ fits (named f) v

@@ -1,12 +1,11 @@
 -- The stored form as it is read: a table record by record, and the whole of it.
 -- Assumes nothing.
 use mathlib.Core.Path.{◌≡◌, refl, ap}
-use mathlib.Core.Bool.{true, false}
 use mathlib.Core.List.{List, [], ◌∷◌, ◌++◌, map, map-append}
-use Prim.Native.Nat.{ℕ, zero, suc, ◌+◌, ◌≤◌, ◌<◌}
+use Prim.Native.Nat.{ℕ, zero, suc, ◌+◌, ◌<◌}
 use native.Mathlib.Numerals.{add-one}
 use native.Mathlib.Omega.{arith}
-use lib.ListN.{length, get_or, take, set, length-set, length-map}
+use lib.ListN.{length, get_or, take, set, replicate, length-set, length-map}
 use lib.Seq.{take-suc, take_all, length-take-le}
 use Rattle.model.specs.Records as model
 use Rattle.model.specs.Records.{decode}
@@ -14,15 +13,19 @@ use Rattle.model.proofs.Rules.{obeys_rules}
 use Rattle.tlv.specs.Firsts.{firsts}
 use Rattle.tlv.proofs.FirstLaws.{length-firsts}
 use Rattle.stored_table.specs.Stored.{no_record, record_at, table_in, Indexed}
-use Rattle.stored_table.specs.Index.{IndexIs}
-use Rattle.stored_table.specs.declared.index.Index.{Index}
 use Rattle.stored_table.proofs.IndexLaws.{record-at, length-places, few-places, numbered}
 use Rattle.key_table.specs.Views.{spare_record, record_value, table_value}
-use Rattle.key_table.specs.Forms.{loading, ValueAt}
+use Rattle.key_table.specs.Forms.{ValueAt}
 use Rattle.key_table.specs.declared.records.Record.{Record}
 use Rattle.key_table.specs.declared.records.Table.{Table}
 
 -- ---- a table, record by record
+
+-- an array of zeros
+pub firsts_none : (n : ℕ) → firsts {A = ℕ} 0 n [] ≡ replicate n 0
+unfolding firsts
+firsts_none zero = refl
+firsts_none (suc n) = ap (λ (k : List ℕ). 0 ∷ k) (firsts_none n)
 
 -- one element more in an array that has room
 firsts-set : {A : Type 0} (z : A) (n : ℕ) (l : List A) (x : A) → length l < n → set (firsts z n l) (length l) x ≡ firsts z n (l ++ (x ∷ []))
@@ -67,20 +70,9 @@ module _ {table places : List ℕ} (x : Indexed table places) {i : ℕ} (h : i <
       }
 
 -- all records
-pub values-all : {table places : List ℕ} → Indexed table places → {records : List Record} {i : ℕ} → Values table records i → i ≤ length places
-    → length places ≤ i → record { records = records; len = i } ≡ table_value (table_in table)
+pub values-all : {table places : List ℕ} → Indexed table places → {records : List Record} {i : ℕ} → Values table records i → i ≡ length places
+    → record { records = records; len = length places } ≡ table_value (table_in table)
 unfolding table_value
-values-all {table} x {i = i} p h k =
+values-all {table} x {i = i} p h =
     let n : i ≡ length (table_in table) = omega (arith, length-places x) in
-    rw (p.are, take_all i (table_in table) (omega arith), n)
-
--- ---- the whole
-
-module _ {s places : List ℕ} {index : Index} (x : IndexIs s places index) {t : Table} where
-  pub loaded_none : index.ok ≡ false → t ≡ table_value [] → record { refusal = 2; table = t } ≡ loading (decode s)
-  unfolding loading
-  loaded_none h e = rw (x.view, h, e)
-
-  pub loaded_table : index.ok ≡ true → t ≡ table_value (table_in s) → record { refusal = 0; table = t } ≡ loading (decode s)
-  unfolding loading
-  loaded_table h e = rw (x.view, h, e)
+    rw (p.are, take_all i (table_in table) (omega arith), length-places x)

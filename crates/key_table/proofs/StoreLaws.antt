@@ -2,14 +2,16 @@
 -- Assumes nothing.
 use mathlib.Core.Path.{◌≡◌, refl, sym, ap, ◌∙◌}
 use mathlib.Core.Bool.{Bool, true, false, cond, ◌&&◌}
-use mathlib.Core.List.{List, [], ◌∷◌, ◌++◌}
+use mathlib.Core.List.{List, [], ◌∷◌, ◌++◌, map, map-append}
 use mathlib.Core.Option.{none, some, bind}
 use Prim.Native.Nat.{ℕ, ◌+◌, ◌≤◌, ◌<◌}
+use native.Mathlib.Numerals.{add-one}
 use native.Mathlib.Omega.{arith}
 use lib.Dec.{leb}
 use lib.ListN.{length, get_or, take, drop, length-append}
-use lib.Seq.{take_all, take_at}
+use lib.Seq.{take_all, take_at, take-suc}
 use borrow.Author.Tests.{lt-ltb, le-ltb}
+use Rattle.std.specs.Prelude.{Ok, Err}
 use Rattle.model.specs.Lists.{all, given}
 use Rattle.model.specs.Tlv.{tlvs_past}
 use Rattle.model.specs.Records as model
@@ -22,16 +24,15 @@ use Rattle.tlv.specs.Firsts.{firsts}
 use Rattle.tlv.proofs.FirstLaws.{firsts-take, length-firsts}
 use Rattle.tlv.proofs.WriteLaws.{then, same, front, from_front, wrote_none}
 use Rattle.fields.specs.Refusals.{ended, ends}
-use Rattle.fields.specs.declared.refusals.Written.TheVariants as written
+use Rattle.fields.specs.declared.refusals.Refusal.TheVariants.{ShortOutput, BrokenTable}
 use Rattle.stored_table.specs.Stored.{record_of, beside_name}
-use Rattle.stored_table.specs.Index.{IndexIs}
-use Rattle.stored_table.specs.declared.index.Index.{Index}
+use Rattle.stored_table.specs.Index.{IndexOf}
 use Rattle.stored_table.proofs.IndexLaws.{encode-append}
 use Rattle.key_table.specs.Views.{view_record, view_table, no_value}
 use Rattle.key_table.specs.Forms.{FormIs, storing}
 use Rattle.key_table.specs.declared.records.Record.{Record}
 use Rattle.key_table.specs.declared.records.Table.{Table}
-use Rattle.key_table.proofs.ViewLaws.{length-view, take_next}
+use Rattle.key_table.proofs.ViewLaws.{view-take}
 
 -- ---- a record
 
@@ -47,25 +48,28 @@ wrote_value r {v} h e w =
 -- ---- a table, record by record
 
 -- nothing written yet
-pub stored_none : (d : List ℕ) (t : model.Table) → Wrote d 0 (encode (take 0 t)) 0 d 0
+pub stored_none : (d : List ℕ) (rs : List Record) → Wrote d 0 (encode (map view_record (take 0 rs))) 0 d 0
 unfolding encode
-stored_none d t = wrote_none d 0 (omega arith)
+stored_none d rs = wrote_none d 0 (omega arith)
 
-module _ (t : Table) (fits : t.len ≤ length t.records) {d d₁ d₂ : List ℕ} {at n e : ℕ} (i : ℕ) (h : i < t.len) where
+module _ (rs : List Record) {d d₁ d₂ : List ℕ} {at n e : ℕ} (i : ℕ) (h : i < length rs) where
   -- one record more
-  pub stored_more : Wrote d 0 (encode (take i (view_table t))) at d₁ at
-      → Wrote d₁ at (encode (view_record (get_or t.records i no_value) ∷ [])) n d₂ e
-      → Wrote d 0 (encode (take (i + 1) (view_table t))) e d₂ e
+  pub stored_more : Wrote d 0 (encode (map view_record (take i rs))) at d₁ at
+      → Wrote d₁ at (encode (view_record (get_or rs i no_value) ∷ [])) n d₂ e
+      → Wrote d 0 (encode (map view_record (take (i + 1) rs))) e d₂ e
   stored_more p q =
-      let r : model.Record = view_record (get_or t.records i no_value) in
-      let w : encode (take i (view_table t)) ++ encode (r ∷ []) ≡ encode (take (i + 1) (view_table t)) =
-      sym (rw (take_next t fits i h) (encode-append (take i (view_table t)) (r ∷ []))) in
+      let r : model.Record = view_record (get_or rs i no_value) in
+      let next : map view_record (take (i + 1) rs) ≡ map view_record (take i rs) ++ (r ∷ []) =
+      rw (add-one, take-suc rs i no_value h) (map-append view_record (take i rs) (get_or rs i no_value ∷ [])) in
+      let w : encode (map view_record (take i rs)) ++ encode (r ∷ []) ≡ encode (map view_record (take (i + 1) rs)) =
+      sym (rw next (encode-append (map view_record (take i rs)) (r ∷ []))) in
       from_front (same w refl (then p q))
 
 -- all records
-pub stored-all : (t : Table) {d d₁ : List ℕ} {at : ℕ} (i : ℕ) → t.len ≤ i
-    → Wrote d 0 (encode (take i (view_table t))) at d₁ at → Wrote d 0 (encode (view_table t)) at d₁ at
-stored-all t i h p = same (ap encode (take_all i (view_table t) (rw (length-view t) h))) refl p
+pub stored-all : (t : Table) {rs : List Record} {d d₁ : List ℕ} {at : ℕ} (i : ℕ) → t.len ≤ length t.records → rs ≡ take t.len t.records
+    → length rs ≤ i → Wrote d 0 (encode (map view_record (take i rs))) at d₁ at → Wrote d 0 (encode (view_table t)) at d₁ at
+stored-all t {rs} i fits e h p =
+    same (ap encode (ap (map view_record) (take_all i rs h ∙ e) ∙ sym (view-take t fits))) refl p
 
 -- ---- the form in which a call is handed a table
 
@@ -98,25 +102,30 @@ read_test : {A : Type 0} (x : A) (b : Bool) → given (cond b (some x) none) ≡
 read_test x true = refl
 read_test x false = refl
 
-pub form-ok : {t : model.Table} {out places : List ℕ} {n : ℕ} {r : Index} → FormIs t out n → IndexIs (take n out) places r
-    → r.ok ≡ table_ok t
+table_there : {t : model.Table} {out : List ℕ} {n : ℕ} → FormIs t out n → given (decode (take n out)) ≡ table_ok t
 unfolding table_of
-form-ok f x = sym (read_test _ _) ∙ ap given (sym x.view ∙ f.view) ∙ read_test _ _
+table_there f = ap given f.view ∙ read_test _ _
+
+pub form_ok : {t : model.Table} {out places : List ℕ} {n m : ℕ} → FormIs t out n → IndexOf (take n out) places m → table_ok t ≡ true
+form_ok f x = sym (table_there f) ∙ ap given x.view
+
+pub form-refused : {t : model.Table} {out : List ℕ} {n : ℕ} → FormIs t out n → decode (take n out) ≡ none → table_ok t ≡ false
+form-refused f e = sym (table_there f) ∙ ap given e
 
 -- ---- the stored form in an output
 
 module _ (t : model.Table) (out : List ℕ) where
-  pub stores_short : length out < max_stored → ended (written.Refused 1) out ≡ ends (storing t (length out)) out
+  pub stores_short : length out < max_stored → ended (Err ShortOutput) out ≡ ends (storing t (length out)) out
   unfolding ends storing judge
   stores_short h = rw (lt-ltb _ _ h)
 
   module _ (h : max_stored ≤ length out) where
-    pub stores-broken : table_ok t ≡ false → ended (written.Refused 2) out ≡ ends (storing t (length out)) out
+    pub stores-broken : table_ok t ≡ false → ended (Err BrokenTable) out ≡ ends (storing t (length out)) out
     unfolding ends storing judge
     stores-broken e = rw (le-ltb _ _ h, e)
 
     pub stores-form : {out' : List ℕ} {n r : ℕ} → table_ok t ≡ true → Wrote out 0 (encode t) n out' r
-        → ended (written.Wrote r) out' ≡ ends (storing t (length out)) out
+        → ended (Ok r) out' ≡ ends (storing t (length out)) out
     unfolding ends storing judge
     stores-form {out'} {n} {r} e w =
         let k : r ≡ length (encode t) = omega (arith, w) in

@@ -1,12 +1,15 @@
 -- A table by value and its stored form, both ways.
-use Rattle.std.specs.Prelude.{◌≡◌, ℕ, ◌≤◌, true, not, List, [], ◌∷◌, ltb, length, take}
+use Rattle.std.specs.Prelude.{◌≡◌, ℕ, ◌≤◌, true, not, List, [], ◌∷◌, ltb, length, take, Result, Ok, Err}
 use Rattle.std.proofs.Math.Option.{Option, none, some}
 use Rattle.model.specs.Records as model
 use Rattle.model.specs.Records.{max_stored, table_ok, encode, decode}
-use Rattle.model.specs.Commands.{check, judge, Result, refused, gave, value, table_of}
+use Rattle.model.specs.Commands as commands
+use Rattle.model.specs.Commands.{check, judge, refused, gave, value, table_of}
+use Rattle.fields.specs.declared.refusals.Refusal.{Refusal}
+use Rattle.fields.specs.declared.refusals.Refusal.TheVariants.{BrokenTable}
 use Rattle.stored_table.specs.Stored.{name_size, Stands}
 use Rattle.key_table.specs.Views.{table_value}
-use Rattle.key_table.specs.declared.forms.Loaded.{Loaded}
+use Rattle.key_table.specs.declared.records.Table.{Table}
 
 -- the first n bytes of an output are the form in which a call is handed a table: what the call finds there is what the table by value is
 pub record FormIs (t : model.Table) (out : List ℕ) (n : ℕ) : Type 0 where
@@ -16,14 +19,14 @@ pub record FormIs (t : model.Table) (out : List ℕ) (n : ℕ) : Type 0 where
 
 -- ---- writing: "1, .. its own output shorter than 6,912; 2, the table .. breaks a rule"
 
-unfoldable pub storing : model.Table → ℕ → Result (List ℕ)
+unfoldable pub storing : model.Table → ℕ → commands.Result (List ℕ)
 storing t n = judge (check 1 (ltb n max_stored) ∷ check 2 (not (table_ok t)) ∷ []) refused (gave (encode t))
 
--- ---- reading: 2 and an empty table, or 0 and the table of which a stretch is the stored form
+-- ---- reading: refusal 2, or the table of which a stretch is the stored form
 
-unfoldable pub loading : Option model.Table → Loaded
-loading none = record { refusal = 2; table = table_value [] }
-loading (some t) = record { refusal = 0; table = table_value t }
+unfoldable pub loading : Option model.Table → Result Table Refusal
+loading none = Err BrokenTable
+loading (some t) = Ok (table_value t)
 
 -- a stored record with a short name lies at a place
 pub record ValueAt (table : List ℕ) (place : ℕ) : Type 0 where

@@ -1,4 +1,4 @@
-ghost use Rattle.std.specs.Prelude.{◌≡◌, ◌+◌, ◌≤◌, true, ◌&&◌, [], ◌∷◌, leb, length, take};
+ghost use Rattle.std.specs.Prelude.{◌≡◌, ◌+◌, ◌≤◌, true, ◌&&◌, [], ◌∷◌, leb, length};
 ghost use Rattle.model.specs.Lists.{all};
 ghost use Rattle.model.specs.Records.{record_ok, max_records, encode, max_stored, decode};
 ghost use Rattle.tlv.specs.Writing.{Wrote};
@@ -9,31 +9,19 @@ ghost use Rattle.key_table.specs.Forms.{FormIs, storing, loading, ValueAt};
 
 use crate::records::{Record, Table, no_table, record_of};
 use crate::rules::records_ok;
-use fields::refusals::{BROKEN_TABLE, SHORT_OUTPUT, Written};
+use fields::refusals::Refusal;
 use stored_table::index::index_of;
 use stored_table::left::put_record;
 use stored_table::records::{MAX_RECORDS, MAX_STORED, count_of, key_of, mixed_of, name_of};
 use tlv::numbers::put8;
 use tlv::writer::put_bytes;
 
-// The first n bytes of an array that is as long as its type says.
-fn name_in(v: &[u8], n: usize) -> &[u8]
-    requires { n ≤ length v.now }
-    ensures { result.now ≡ take n v.now }
-{
-    &v[0..n]
-}
-
 // Writes the stored form of a record by value.
-fn put_value(out: &mut [u8], at: usize, r: Record) -> usize
-    requires { (r.name_len ≤ 128) × (at + (beside_name + r.name_len) ≤ length out.old) }
-    ensures { Wrote out.old at (encode (view_record r ∷ [])) (beside_name + r.name_len) out.new result }
+fn put_value(out: &mut [u8], at: usize, r: &Record) -> usize
+    requires { (r.now.name_len ≤ 128) × (at + (beside_name + r.now.name_len) ≤ length out.old) }
+    ensures { Wrote out.old at (encode (view_record r.now ∷ [])) (beside_name + r.now.name_len) out.new result }
 {
-    let n = r.name_len;
-    let key_id = r.key_id;
-    let mixed = r.mixed;
-    let name = r.name;
-    put_record(out, at, &key_id, &mixed, name_in(&name, n), r.count)
+    put_record(out, at, &r.key_id, &r.mixed, r.name(), r.count)
 }
 
 // Writes the stored form of a table from the front.
@@ -42,13 +30,9 @@ fn put_table(out: &mut [u8], t: Table) -> usize
     requires max_stored_in_bounds { max_stored ≤ length out.old }
     ensures { Wrote out.old 0 (encode (view_table t)) result out.new result }
 {
-    let n = t.len;
     let mut at = 0;
-    let mut i = 0;
-    while i < n {
-        let r = t.records[i];
-        at = put_value(out, at, r);
-        i += 1;
+    for record in t.held() {
+        at = put_value(out, at, record);
     }
     at
 }
@@ -67,20 +51,19 @@ pub fn put_form(out: &mut [u8], t: Table) -> usize
 
 // Writes the stored form of a table: refusal 1 for an output that is too short, then 2 for a table that breaks a rule.
 #[tactic(auto, using(crate::proofs::StoreLaws::stores_short))]
-pub fn store(t: Table, out: &mut [u8]) -> Written
+pub fn store(t: Table, out: &mut [u8]) -> Result<usize, Refusal>
     ensures { ended result out.new ≡ ends (storing (view_table t) (length out.old)) out.old }
 {
     if out.len() < MAX_STORED {
-        return Written::Refused(SHORT_OUTPUT);
+        return Err(Refusal::ShortOutput);
     }
     let mut form = [0u8; MAX_STORED];
     let n = put_form(&mut form, t);
     let mut places = [0usize; MAX_RECORDS];
-    let index = index_of(&form[0..n], &mut places);
-    if !index.ok {
-        return Written::Refused(BROKEN_TABLE);
-    }
-    Written::Wrote(put_bytes(out, 0, &form[0..n]))
+    let Some(_) = index_of(&form[..n], &mut places) else {
+        return Err(Refusal::BrokenTable);
+    };
+    Ok(put_bytes(out, 0, &form[..n]))
 }
 
 // The record at a place of a stored table, by value.
@@ -98,38 +81,21 @@ fn values_at(table: &[u8], places: &[usize]) -> Table
     requires { Indexed table.now places.now }
     ensures { result ≡ table_value (table_in table.now) }
 {
-    let empty = no_table();
-    let mut records = empty.records;
-    let mut i = 0;
-    while i < places.len() {
-        records[i] = value_at(table, places[i]);
-        i += 1;
+    let mut t = no_table();
+    for (i, &place) in places.iter().enumerate() {
+        t.records[i] = value_at(table, place);
     }
-    Table { records, len: i }
+    t.len = places.len();
+    t
 }
 
-// What reading a stored table gives: 0 and the table, or refusal 2 and an empty one. Spare bytes are zero.
-#[derive(Clone, Copy)]
-pub struct Loaded {
-    pub refusal: u32,
-    pub table: Table,
-}
-
-// Reads a table from its stored form: refusal 2 for a stretch that is the stored form of no table.
-pub fn load(stored: &[u8]) -> Loaded
+// Reads a table from its stored form: refusal 2 for a stretch that is the stored form of no table. Spare bytes of a table that is read are zero.
+pub fn load(stored: &[u8]) -> Result<Table, Refusal>
     ensures { result ≡ loading (decode stored.now) }
 {
     let mut places = [0usize; MAX_RECORDS];
-    let index = index_of(stored, &mut places);
-    if !index.ok {
-        return Loaded {
-            refusal: BROKEN_TABLE,
-            table: no_table(),
-        };
-    }
-    let n = index.len;
-    Loaded {
-        refusal: 0,
-        table: values_at(stored, &places[0..n]),
+    match index_of(stored, &mut places) {
+        None => Err(Refusal::BrokenTable),
+        Some(n) => Ok(values_at(stored, &places[..n])),
     }
 }

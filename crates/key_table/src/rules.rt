@@ -8,49 +8,11 @@ use crate::records::{Record, Table};
 use fields::is_username;
 use stored_table::records::MAX_RECORDS;
 
-// Whether the first n bytes are a name.
-fn is_name(v: &[u8], n: usize) -> bool
-    requires { n ≤ length v.now }
-    ensures { result ≡ fits username (take n v.now) }
-{
-    is_username(&v[..n])
-}
-
-// Whether the first n bytes of an array are a name: its length is its type's.
-fn is_name_in(v: &[u8; 128], n: usize) -> bool
-    requires { n ≤ 128 }
-    ensures { result ≡ fits username (take n v.now) }
-{
-    is_name(v, n)
-}
-
 // Whether a record obeys the rules: the other lengths and the counter's width are those of its types.
 fn record_ok(r: Record) -> bool
     ensures { result ≡ record_ok (view_record r) }
 {
-    let n = r.name_len;
-    if 128 < n {
-        return false;
-    }
-    let name = r.name;
-    is_name_in(&name, n)
-}
-
-// Whether each record obeys them.
-fn each_ok(t: Table) -> bool
-    requires { t.len ≤ 32 }
-    ensures { result ≡ all record_ok (view_table t) }
-{
-    let n = t.len;
-    let mut i = 0;
-    while i < n {
-        let r = t.records[i];
-        if !record_ok(r) {
-            return false;
-        }
-        i += 1;
-    }
-    true
+    r.name_len <= 128 && is_username(r.name())
 }
 
 // Whether there are at most 32 records, each of which obeys its rules. That no KeyID stands there twice, and no mixed token too often, is found
@@ -62,5 +24,5 @@ pub fn records_ok(t: Table) -> bool
     if MAX_RECORDS < t.len {
         return false;
     }
-    each_ok(t)
+    t.held().iter().all(|r| record_ok(*r))
 }

@@ -2,22 +2,21 @@
 -- Assumes nothing.
 use mathlib.Core.Path.{◌≡◌, refl, sym, ◌∙◌}
 use mathlib.Core.Bool.{Bool, true, false, cond, ◌&&◌, ◌||◌, and-true, or-false}
-use mathlib.Core.List.{List, [], ◌∷◌, ◌++◌, map}
+use mathlib.Core.List.{List, [], ◌∷◌}
 use Prim.Native.Nat.{ℕ, zero, suc, ◌+◌, ◌-◌, ◌*◌, ◌≤◌, ◌<◌}
 use native.Mathlib.Omega.{arith}
 use lib.ListN.{length, get_or}
-use lib.Seq.{get_or-take, get_or-drop}
-use lib.Dec.{leb, ltb, eqb}
+use lib.Seq.{take_all, get_or-take, get_or-drop}
+use lib.Dec.{leb, eqb}
 use borrow.Author.Tests.{leb-true, le-leb, eq-eqb, ne_eqb, eqb-true, eqb-false}
-use Rattle.model.specs.Lists.{eq_bytes, among}
-use Rattle.model.specs.Tlv.{num, le, rule, sized, aaid, assertion_info}
+use Rattle.model.specs.Lists.{eq_bytes}
+use Rattle.model.specs.Tlv.{num, rule, sized, aaid, assertion_info}
 use Rattle.model.specs.Layouts.{reads}
 use Rattle.model.proofs.Basics.{split, and_left, and_right}
-use Rattle.tlv.specs.Numbers.{num_at, NumberAt}
+use Rattle.tlv.specs.Numbers.{num_at}
 use Rattle.tlv.specs.Heads.{head_at, between}
 use Rattle.tlv.specs.declared.heads.Head.{Head}
 use Rattle.tlv.specs.declared.heads.Head.TheVariants.{Tlv as Found, Bad, End}
-use Rattle.tlv.proofs.NumberLaws.{number-add, num-between}
 use Rattle.tlv.proofs.HeadLaws.{IsTlv, head_tlv, tlv-is, length_part}
 use Rattle.layouts.specs.Places.{nowhere, reads_at, past_head, after_tlv, obeys, after_rule, after_field, in_head, in_group}
 use Rattle.layouts.specs.Groups.{signed_fields, signed_rest, is_signed_data}
@@ -41,9 +40,9 @@ module _ (t : ℕ) (p : List ℕ → Bool) (s : List ℕ) (at : ℕ) where
 
   -- nothing is found where its end, its tag and its value cannot all be as they must
   pub tlv_none : (at + 4 + num_at 2 s (at + 2) ≤ length s → num_at 2 s at ≡ t → p (between s (at + 4) (at + 4 + num_at 2 s (at + 2))) ≡ true → ⊥)
-      → after_tlv t p s at ≡ nowhere s
+      → nowhere s ≡ after_tlv t p s at
   unfolding after_tlv
-  tlv_none f = none_head (head_at s at) refl f
+  tlv_none f = sym (none_head (head_at s at) refl f)
 
   pub tlv_here : {tag len : ℕ} → tag ≡ num_at 2 s at → tag ≡ t → len ≡ num_at 2 s (at + 2) → at + 4 + len ≤ length s
       → p (between s (at + 4) (at + 4 + len)) ≡ true → after_tlv t p s at ≡ at + 4 + len
@@ -74,8 +73,9 @@ module _ (t : ℕ) (p q : List ℕ → Bool) (s : List ℕ) (at : ℕ) {end : �
   -- where nothing passes the first test
   pub more-nowhere : ((v : List ℕ) → q v ≡ true → p v ≡ true) → length s < end → after_tlv t q s at ≡ nowhere s
   more-nowhere f k =
-      tlv_none t q s at
-      (λ h d v. let x : end ≡ at + 4 + num_at 2 s (at + 2) = e ∙ tlv_here t p s at refl d refl h (f _ v) in omega arith)
+      sym
+      (tlv_none t q s at
+      (λ h d v. let x : end ≡ at + 4 + num_at 2 s (at + 2) = e ∙ tlv_here t p s at refl d refl h (f _ v) in omega arith))
 
   -- where something does, b is what the second gives
   pub more_asked : (b : Bool) → end ≤ length s → q (between s (at + 4) end) ≡ b → after_tlv t q s at ≡ cond b end (nowhere s)
@@ -90,7 +90,7 @@ module _ (t m n : ℕ) (s : List ℕ) (at : ℕ) where
       length_part (record { ordered = omega arith; within = h }) ∙ e
 
   pub sized_none : (at + 4 + num_at 2 s (at + 2) ≤ length s → num_at 2 s at ≡ t → m ≤ num_at 2 s (at + 2) → num_at 2 s (at + 2) ≤ n → ⊥)
-      → after_rule (sized t m n) s at ≡ nowhere s
+      → nowhere s ≡ after_rule (sized t m n) s at
   sized_none f =
       tlv_none t (obeys (sized t m n)) s at
       (λ h e v. let len : ℕ = num_at 2 s (at + 2) in
@@ -122,30 +122,33 @@ pub record Stands (s : List ℕ) (at m n end : ℕ) : Type 0 where
   pub least : at + 4 + m ≤ end
   pub most : end ≤ at + 4 + n
 
+-- so long is its value
+pub sized-value : (t m n : ℕ) (s : List ℕ) (at : ℕ) {end : ℕ} → end ≡ after_rule (sized t m n) s at → end ≤ length s
+    → (m ≤ length (between s (at + 4) end)) × (length (between s (at + 4) end) ≤ n)
+sized-value t m n s at {end} e h =
+    let v : List ℕ = between s (at + 4) end in
+    let o : (leb m (length v) && leb (length v) n) ≡ true = sym (and-true _) ∙ (tlv-before h t (obeys (sized t m n)) e).1 in
+    (leb-true _ _ (and_left (leb m (length v)) _ o), leb-true _ _ (and_right (leb m (length v)) _ o))
+
 pub sized-stands : (t m n : ℕ) (s : List ℕ) (at : ℕ) {end : ℕ} → end ≡ after_rule (sized t m n) s at → end ≤ length s → Stands s at m n end
 sized-stands t m n s at {end} e h =
-    let d = tlv-before h t (obeys (sized t m n)) e in
-    let i = d.0 in
-    let v : List ℕ = between s (at + 4) end in
-    let k : length v ≡ end - (at + 4) = length_part (record { ordered = i.ordered; within = h }) in
-    let o : (leb m (length v) && leb (length v) n) ≡ true = sym (and-true _) ∙ d.1 in
-    let x : m ≤ length v = leb-true _ _ (and_left (leb m (length v)) _ o) in
-    let y : length v ≤ n = leb-true _ _ (and_right (leb m (length v)) _ o) in
+    let i = (tlv-before h t (obeys (sized t m n)) e).0 in
+    let k : length (between s (at + 4) end) ≡ end - (at + 4) = length_part (record { ordered = i.ordered; within = h }) in
+    let v = sized-value t m n s at e h in
     record { within = h; least = omega (arith, i); most = omega (arith, i) }
 
 -- ---- the value as a number
 
-number_is : (s : List ℕ) (at end w : ℕ) → end ≡ at + 4 + w → {r : ℕ} → r ≡ num_at w s (at + 4) → num (between s (at + 4) end) ≡ r
-number_is s at end w e d =
-    let k : end - (at + 4) ≡ w = omega arith in
-    num-between s (at + 4) end ∙ rw (k, d)
+pub num-whole : (w : ℕ) (v : List ℕ) → length v ≤ w → num_at w v 0 ≡ num v
+unfolding num_at
+num-whole w v h = rw (take_all w v h)
 
 abbrev zeros : ℕ → List ℕ
 zeros zero = []
 zeros (suc n) = 0 ∷ zeros n
 
 -- bytes are all zero exactly if the number that they spell is
-zeros_is : (n : ℕ) (v : List ℕ) → length v ≡ n → eq_bytes (zeros n) v ≡ eqb (num v) 0
+pub zeros_is : (n : ℕ) (v : List ℕ) → length v ≡ n → eq_bytes (zeros n) v ≡ eqb (num v) 0
 unfolding eq_bytes num
 zeros_is zero [] h = refl
 zeros_is zero (b ∷ v) h = absurd (omega arith)
@@ -158,40 +161,11 @@ zeros_is (suc n) (b ∷ v) h =
     (λ y. let w : num v ≡ 0 → ⊥ = eqb-false _ _ y in rw (x, y) (sym (ne_eqb (b + 256 * num v) 0 (λ k. w (omega arith))))))
     (λ x. let z : 0 ≡ b → ⊥ = eqb-false _ _ x in rw x (sym (ne_eqb (b + 256 * num v) 0 (λ k. z (omega arith))))))
 
--- a value of one length, of which a number r is known
-module _ {s : List ℕ} {at end : ℕ} where
-  zero_is : (w : ℕ) → Stands s at w w end → {r : ℕ} → r ≡ num_at w s (at + 4) → eq_bytes (zeros w) (between s (at + 4) end) ≡ eqb r 0
-  zero_is w i e =
-      let n : end - (at + 4) ≡ w = omega (arith, i) in
-      let k : length (between s (at + 4) end) ≡ w = length_part (record { ordered = omega (arith, i); within = i.within }) ∙ n in
-      zeros_is w (between s (at + 4) end) k ∙ rw (number_is s at end w (omega (arith, i)) e)
-
-  -- status OK
-  pub ok-is : Stands s at 2 2 end → {r : ℕ} → r ≡ num_at 2 s (at + 4) → among (between s (at + 4) end) (map (le 2) (0 ∷ [])) ≡ eqb r 0
-  unfolding le
-  ok-is i e = or-false _ ∙ zero_is 2 i e
-
-  -- both counts zero
-  pub counts_are : Stands s at 8 8 end → {x y : ℕ} → NumberAt 4 s (at + 4) x → NumberAt 4 s (at + 8) y
-      → eq_bytes (le 4 0 ++ le 4 0) (between s (at + 4) end) ≡ eqb (x + y) 0
-  unfolding le
-  counts_are i {x} {y} p q =
-      let m : at + 4 + 4 ≡ at + 8 = omega arith in
-      let z : NumberAt 8 s (at + 4) (x + 4294967296 * y) = number-add 4 4 p (rw m q) in
-      zero_is 8 i z.value
-      ∙ split (eqb (x + y) 0)
-      (λ e. let k : x + y ≡ 0 = eqb-true _ _ e in rw e (eq-eqb (x + 4294967296 * y) 0 (omega arith)))
-      (λ e. let k : x + y ≡ 0 → ⊥ = eqb-false _ _ e in rw e (ne_eqb (x + 4294967296 * y) 0 (λ d. k (omega arith))))
-
-  -- a count that is not zero
-  pub count-is : Stands s at 4 4 end → {r : ℕ} → r ≡ num_at 4 s (at + 4) → ltb 0 (num (between s (at + 4) end)) ≡ ltb 0 r
-  count-is i e = rw (number_is s at end 4 (omega (arith, i)) e)
-
-  -- its third byte
-  pub mode_at : {m n : ℕ} → 3 ≤ m → Stands s at m n end → get_or (between s (at + 4) end) 2 0 ≡ get_or s (at + 6) 0
-  mode_at h i =
-      let e : at + 4 + 2 ≡ at + 6 = omega arith in
-      get_or-take (end - (at + 4)) _ 2 0 (omega (arith, i)) ∙ get_or-drop (at + 4) s 2 0 ∙ rw e
+-- its third byte
+mode_at : {s : List ℕ} {at end m n : ℕ} → 3 ≤ m → Stands s at m n end → get_or (between s (at + 4) end) 2 0 ≡ get_or s (at + 6) 0
+mode_at {s} {at} {end} h i =
+    let e : at + 4 + 2 ≡ at + 6 = omega arith in
+    get_or-take (end - (at + 4)) _ 2 0 (omega (arith, i)) ∙ get_or-drop (at + 4) s 2 0 ∙ rw e
 
 -- ---- SIGNED_DATA, by its mode
 
@@ -215,16 +189,16 @@ module _ (s : List ℕ) {a b : ℕ} (ea : a ≡ after_field aaid s 0) (eb : b �
       ∙ rw (rule-nowhere 0x2E0E 5 5 (λ v. eqb (get_or v 2 0) (cond content 2 1)) s a eb h)
       (found_if false (signed_rest content) s b)
 
-  pub signed_none : length s < b → is_signed_data s ≡ false
-  signed_none h = rw (info_none true h, info_none false h)
+  pub signed_none : length s < b → false ≡ is_signed_data s
+  signed_none h = sym (rw (info_none true h, info_none false h))
 
   -- x is the mode
   module _ {x : ℕ} (h : b ≤ length s) (e : x ≡ get_or s (a + 6) 0) where
     by_mode : is_signed_data s ≡ (eqb x 2 && reads_at (signed_rest true) s b || eqb x 1 && reads_at (signed_rest false) s b)
     by_mode = rw (info_mode true h, info_mode false h, ← e)
 
-    pub signed-other : (x ≡ 2 → ⊥) → (x ≡ 1 → ⊥) → is_signed_data s ≡ false
-    signed-other k l = by_mode ∙ simp (ne_eqb x 2 k, ne_eqb x 1 l)
+    pub signed_other : (x ≡ 2 → ⊥) → (x ≡ 1 → ⊥) → false ≡ is_signed_data s
+    signed_other k l = sym (by_mode ∙ simp (ne_eqb x 2 k, ne_eqb x 1 l))
 
     pub signed-mode : 1 ≤ x → x ≤ 2 → is_signed_data s ≡ reads_at (signed_rest (eqb x 2)) s b
     signed-mode k l =

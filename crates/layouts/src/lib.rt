@@ -3,7 +3,8 @@
 // What is asked of a field is given as constants, so that each call is compiled to a few comparisons.
 #![tactic(auto)]
 
-ghost use Rattle.std.specs.Prelude.{◌≡◌, true};
+ghost use Rattle.std.specs.Prelude.{◌≡◌, ℕ, ◌≤◌, Bool, true, List, length};
+ghost use Rattle.std.specs.Fn.{FnReturnsAt};
 ghost use Rattle.model.specs.Lists.{eq_bytes};
 ghost use Rattle.model.specs.Tlv.{rule, sized, username, assertion_info, content_hash, no_counts, new_count, krd_tag, pair_tag};
 ghost use Rattle.model.specs.Layouts.{reads};
@@ -15,20 +16,15 @@ ghost use Rattle.layouts.specs.Groups.{krd_fields, signed_rest, is_signed_data, 
 use fields::sizes::Size;
 use fields::{sizes, tags};
 use tlv::bytes::same;
-use tlv::numbers::{get16, get32};
+use tlv::numbers::{get16, get32, get64};
 use utf8::is_utf8;
 
 // The place after a TLV with this tag.
+#[tactic(auto, using(crate::proofs::LeafLaws::tlv_none))]
 fn after_tag(s: &[u8], at: usize, tag: usize) -> usize
     ensures { result ≡ after_tlv tag (λ v. true) s.now at }
 {
-    if s.len() < at {
-        return s.len() + 1;
-    }
-    if s.len() - at < 4 {
-        return s.len() + 1;
-    }
-    if get16(s, at) != tag {
+    if s.len() < at || s.len() - at < 4 || get16(s, at) != tag {
         return s.len() + 1;
     }
     let n = get16(s, at + 2);
@@ -51,102 +47,71 @@ pub fn enter(s: &[u8], at: usize, tag: usize) -> usize
 
 // The place after a field of which only the size is asked. That the least value has room is asked first: the end of a value of one length is then
 // known from its place, before its header is read, and the compiler leaves out the last test.
+#[tactic(auto, using(crate::proofs::LeafLaws::sized_none))]
 pub fn after_sized(s: &[u8], at: usize, size: Size) -> usize
     ensures { result ≡ after_rule (sized size.tag size.least size.most) s.now at }
 {
-    if s.len() < at {
-        return s.len() + 1;
-    }
-    if s.len() - at < 4 {
-        return s.len() + 1;
-    }
-    if s.len() - at - 4 < size.least {
-        return s.len() + 1;
-    }
-    if get16(s, at) != size.tag {
+    if s.len() < at
+        || s.len() - at < 4
+        || s.len() - at - 4 < size.least
+        || get16(s, at) != size.tag
+    {
         return s.len() + 1;
     }
     let len = get16(s, at + 2);
-    if len < size.least {
-        return s.len() + 1;
-    }
-    if size.most < len {
-        return s.len() + 1;
-    }
-    if s.len() - at - 4 < len {
+    if len < size.least || size.most < len || s.len() - at - 4 < len {
         return s.len() + 1;
     }
     at + 4 + len
+}
+
+// The place after a field whose value passes a test, which is asked only of values of this size.
+fn after_allowed<F: Fn(&[u8]) -> bool>(s: &[u8], at: usize, size: Size, allowed: F) -> usize
+    requires { (v : _) → size.least ≤ length v.now → length v.now ≤ size.most → F.pre allowed v }
+    ensures { (test : List ℕ → Bool)
+        → ((v : List ℕ) (b : Bool) → size.least ≤ length v → length v ≤ size.most → FnReturnsAt F.Fn allowed v b → b ≡ test v)
+        → result ≡ after_rule (rule size.tag size.least size.most test) s.now at }
+{
+    let end = after_sized(s, at, size);
+    if end <= s.len() && allowed(&s[at + 4..end]) {
+        return end;
+    }
+    s.len() + 1
 }
 
 // The place after a field that has one value only.
 pub fn after_fixed(s: &[u8], at: usize, size: Size, value: &[u8]) -> usize
     ensures { result ≡ after_rule (rule size.tag size.least size.most (eq_bytes value.now)) s.now at }
 {
-    let end = after_sized(s, at, size);
-    if s.len() < end {
-        return s.len() + 1;
-    }
-    if !same(value, &s[at + 4..end]) {
-        return s.len() + 1;
-    }
-    end
+    after_allowed(s, at, size, |v| same(value, v))
 }
 
 // The place after a username.
 fn after_name(s: &[u8], at: usize) -> usize
     ensures { result ≡ after_field username s.now at }
 {
-    let end = after_sized(s, at, sizes::USERNAME);
-    if s.len() < end {
-        return s.len() + 1;
-    }
-    if !is_utf8(&s[at + 4..end]) {
-        return s.len() + 1;
-    }
-    end
+    after_allowed(s, at, sizes::USERNAME, is_utf8)
 }
 
 // The place after KRD's ASSERTION_INFO: its third byte, the mode, is 1.
 fn after_krd_info(s: &[u8], at: usize) -> usize
     ensures { result ≡ after_field (assertion_info 7 1) s.now at }
 {
-    let end = after_sized(s, at, sizes::KRD_INFO);
-    if s.len() < end {
-        return s.len() + 1;
-    }
-    if s[at + 6] != 1 {
-        return s.len() + 1;
-    }
-    end
+    after_allowed(s, at, sizes::KRD_INFO, |v| v[2] == 1)
 }
 
 // The place after KRD's COUNTERS: both are zero.
 fn after_no_counts(s: &[u8], at: usize) -> usize
     ensures { result ≡ after_field no_counts s.now at }
 {
-    let end = after_sized(s, at, sizes::TWO_COUNTERS);
-    if s.len() < end {
-        return s.len() + 1;
-    }
-    if get32(s, at + 4) + get32(s, at + 8) != 0 {
-        return s.len() + 1;
-    }
-    end
+    after_allowed(s, at, sizes::TWO_COUNTERS, |v| get64(v, 0) == 0)
 }
 
 // The place after SIGNED_DATA's COUNTERS, a new count: it is not zero.
 fn after_count(s: &[u8], at: usize) -> usize
     ensures { result ≡ after_field new_count s.now at }
 {
-    let end = after_sized(s, at, sizes::COUNTER);
-    if s.len() < end {
-        return s.len() + 1;
-    }
-    if get32(s, at + 4) == 0 {
-        return s.len() + 1;
-    }
-    end
+    after_allowed(s, at, sizes::COUNTER, |v| 0 < get32(v, 0))
 }
 
 // The place after SIGNED_DATA's TRANSACTION_CONTENT_HASH, which is empty without content.
@@ -186,6 +151,7 @@ fn is_signed_rest(s: &[u8], at: usize, content: bool) -> bool
 
 // Whether a stretch is what SIGNED_DATA holds. The mode, the third byte of its ASSERTION_INFO, tells which of the two layouts it can have: 2 with
 // content, 1 without.
+#[tactic(auto, using(crate::proofs::LeafLaws::signed_none, crate::proofs::LeafLaws::signed_other))]
 fn is_signed_data(s: &[u8]) -> bool
     ensures { result ≡ is_signed_data s.now }
 {
@@ -195,10 +161,7 @@ fn is_signed_data(s: &[u8]) -> bool
         return false;
     }
     let mode = s[a1 + 6];
-    if mode < 1 {
-        return false;
-    }
-    if 2 < mode {
+    if mode < 1 || 2 < mode {
         return false;
     }
     is_signed_rest(s, a2, mode == 2)
@@ -224,58 +187,43 @@ fn is_record(s: &[u8]) -> bool
     end == s.len()
 }
 
-// The place after KRD. The value of a group after which something may follow is read as its own stretch, here and below.
+// The place after a group: a TLV with this tag whose value passes a test. The value is read as its own stretch, since something may follow.
+fn after_inside<F: Fn(&[u8]) -> bool>(s: &[u8], at: usize, tag: usize, inside: F) -> usize
+    requires { F.IsAlwaysCallable inside }
+    ensures { (test : List ℕ → Bool) → ((v : List ℕ) (b : Bool) → FnReturnsAt F.Fn inside v b → b ≡ test v)
+        → result ≡ after_tlv tag test s.now at }
+{
+    let end = after_tag(s, at, tag);
+    if end <= s.len() && inside(&s[at + 4..end]) {
+        return end;
+    }
+    s.len() + 1
+}
+
+// The place after KRD.
 pub fn after_krd(s: &[u8], at: usize) -> usize
     ensures { result ≡ after_group krd_tag krd_fields s.now at }
 {
-    let end = after_tag(s, at, tags::KRD);
-    if s.len() < end {
-        return s.len() + 1;
-    }
-    if !is_krd(&s[at + 4..end]) {
-        return s.len() + 1;
-    }
-    end
+    after_inside(s, at, tags::KRD, is_krd)
 }
 
 // The place after SIGNED_DATA, with content or without.
 pub fn after_signed(s: &[u8], at: usize) -> usize
     ensures { result ≡ after_signed s.now at }
 {
-    let end = after_tag(s, at, tags::SIGNED_DATA);
-    if s.len() < end {
-        return s.len() + 1;
-    }
-    if !is_signed_data(&s[at + 4..end]) {
-        return s.len() + 1;
-    }
-    end
+    after_inside(s, at, tags::SIGNED_DATA, is_signed_data)
 }
 
 // The place after USERNAME_AND_KEYHANDLE in a list of names.
 pub fn after_pair(s: &[u8], at: usize) -> usize
     ensures { result ≡ after_group pair_tag pair_fields s.now at }
 {
-    let end = after_tag(s, at, tags::USERNAME_AND_KEYHANDLE);
-    if s.len() < end {
-        return s.len() + 1;
-    }
-    if !is_pair(&s[at + 4..end]) {
-        return s.len() + 1;
-    }
-    end
+    after_inside(s, at, tags::USERNAME_AND_KEYHANDLE, is_pair)
 }
 
 // The place after a stored record.
 pub fn after_record(s: &[u8], at: usize) -> usize
     ensures { result ≡ after_group pair_tag record_fields s.now at }
 {
-    let end = after_tag(s, at, tags::USERNAME_AND_KEYHANDLE);
-    if s.len() < end {
-        return s.len() + 1;
-    }
-    if !is_record(&s[at + 4..end]) {
-        return s.len() + 1;
-    }
-    end
+    after_inside(s, at, tags::USERNAME_AND_KEYHANDLE, is_record)
 }

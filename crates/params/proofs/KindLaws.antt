@@ -2,16 +2,15 @@
 -- or is taken.
 -- Assumes nothing.
 use mathlib.Core.Path.{◌≡◌, refl, sym, ap, ◌∙◌}
-use mathlib.Core.Bool.{Bool, true, false, not, cond, ◌&&◌, ◌||◌}
+use mathlib.Core.Bool.{Bool, true, false, cond, ◌&&◌, ◌||◌}
 use mathlib.Core.List.{List, [], ◌∷◌, ◌++◌, map}
 use mathlib.Core.Option
 use mathlib.Core.Option.{Option, none, some}
 use Prim.Native.Nat.{ℕ, zero, suc, ◌≤◌, ◌<◌}
-use native.Mathlib.Numerals.{lt_of_le_of_ne}
 use native.Mathlib.Omega.{arith}
 use lib.ListN.{length, take, get_or}
 use lib.Dec.{leb, ltb, eqb}
-use borrow.Author.Tests.{le-leb, lt-leb, leb-true, ltb-true, ltb-false, eqb-true, eqb-false, eq-eqb, ne_eqb, not-false}
+use borrow.Author.Tests.{le-leb, lt-leb, leb-true, ltb-true, ltb-false, eqb-true, eqb-false, eq-eqb, ne_eqb}
 use Rattle.model.specs.Lists.{all, first, select, eq_bytes}
 use Rattle.model.specs.Tlv as model
 use Rattle.model.specs.Tlv.{Tlv, critical, Field, key_handle, Listed, get_info, register, sign, deregister, open_settings, command_tag, kinds, kind_of, fields_of, rule_of, tag_of, fits, listed, child_ok, skippable}
@@ -26,13 +25,13 @@ use Rattle.params.specs.Children.{child_passes, child_taken}
 abbrev pub kind_with : ℕ → Option model.Kind
 kind_with tag = first (select (λ k. eqb tag (command_tag k)) kinds)
 
-pub kind-short : (s : List ℕ) → length s < 4 → kind_of s ≡ none
+pub kind-short : (s : List ℕ) → length s < 4 → none ≡ kind_of s
 unfolding kind_of
 kind-short s h = simp (lt-leb _ _ h)
 
-pub kind-named : (s : List ℕ) (tag : ℕ) → 4 ≤ length s → tag ≡ num_at 2 s 0 → kind_of s ≡ kind_with tag
+pub kind-named : (s : List ℕ) {tag n : ℕ} → 4 ≤ length s → tag ≡ num_at 2 s 0 → tag ≡ n → kind_with n ≡ kind_of s
 unfolding kind_of num_at
-kind-named s tag h e = rw e (simp (le-leb _ _ h))
+kind-named s h e i = rw (← i, e) (simp (le-leb _ _ h))
 
 -- a tag that is none of the commands'
 select_none : {K : Type 0} (tag : ℕ) (ks : List model.Kind) → NoneOf command_tag K tag ks
@@ -42,19 +41,10 @@ select_none tag (k ∷ ks) h =
     let rest = select_none tag ks h in
     (rest.0.0, rw (ne_eqb tag (command_tag k) rest.0.1) rest.1)
 
-pub kind_none : (tag : ℕ) → NoneOf command_tag (Unit {0}) tag kinds → kind_with tag ≡ none
-kind_none tag h = ap first (select_none tag kinds h).1
+pub kind_none : (s : List ℕ) {tag : ℕ} → 4 ≤ length s → tag ≡ num_at 2 s 0 → NoneOf command_tag (Unit {0}) tag kinds → none ≡ kind_of s
+kind_none s {tag} h e k = sym (ap first (select_none tag kinds k).1) ∙ kind-named s h e refl
 
 -- ---- slots and tags
-
--- a number is none of those below another
-abbrev pub NotBelow : ℕ → ℕ → Type 0
-NotBelow x zero = Unit {0}
-NotBelow x (suc n) = NotBelow x n × (x ≡ n → ⊥)
-
-not-below : (x n : ℕ) → NotBelow x n → n ≤ x
-not-below x zero h = omega arith
-not-below x (suc n) h = lt_of_le_of_ne (not-below x n h.0) (λ e. h.1 (sym e))
 
 -- the last of a list is what remains
 get_d_last : {A : Type 0} (xs : List A) (x : A) (i : ℕ) → length xs ≤ i → get_or (xs ++ (x ∷ [])) i x ≡ x
@@ -65,9 +55,6 @@ get_d_last (y ∷ xs) x (suc i) h = get_d_last xs x i (omega arith)
 
 slot_from : (slot : ℕ) → 9 ≤ slot → slot_field slot ≡ key_handle
 slot_from slot h = get_d_last (take 9 command_fields) key_handle slot h
-
-pub slot_last : (slot : ℕ) → NotBelow slot 9 → slot_field slot ≡ key_handle
-slot_last slot k = slot_from slot (not-below slot 9 k)
 
 -- a tag that is none of the fields'
 place_none : {K : Type 0} (tag : ℕ) (fs : List Field) → NoneOf tag_of K tag fs → K × (place_of tag fs ≡ length fs)
@@ -311,9 +298,9 @@ module _ (k : model.Kind) (c : Tlv) {slot most : ℕ} (s : slot ≡ slot_of c.ta
 
 -- there is a place for one that is taken and noted
 pub taken_place : (k : model.Kind) (c : Tlv) (n : ℕ) {slot most : ℕ} {b : Bool} → slot ≡ slot_of c.tag
-    → most ≡ get_or (by_slot (most_for k)) slot 0 → b ≡ child_taken slot most n c → not b ≡ false → 0 < most → (n < 8) × (slot < slots)
+    → most ≡ get_or (by_slot (most_for k)) slot 0 → b ≡ child_taken slot most n c → b ≡ true → 0 < most → (n < 8) × (slot < slots)
 taken_place k c n {slot} {most} s m told passes h =
     let z : most ≡ 0 → ⊥ = λ e. omega arith in (
-      omega (arith, taken-room k c s m n (sym told ∙ not-false _ passes) z, room_most slot),
+      omega (arith, taken-room k c s m n (sym told ∙ passes) z, room_most slot),
       listed-slot k c s m z,
     )

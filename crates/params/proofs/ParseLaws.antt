@@ -9,7 +9,7 @@ use native.Mathlib.Omega.{arith}
 use lib.ListN.{length, take, drop, get_or, length-drop, length-append}
 use lib.Seq.{take_all}
 use lib.Dec.{leb, lit<}
-use borrow.Author.Tests.{leb-true, leb-false, le-leb, lt-leb, not-true}
+use borrow.Author.Tests.{leb-true, leb-false, le-leb, lt-leb}
 use Rattle.model.specs.Lists.{all}
 use Rattle.model.specs.Tlv.{Tlv, tlv, tlvs, is_run, Field, key_handle, tag_of, max_command, Kind, fields_of, values_of, times_ok, children_ok, children, broken, fields_in, field_in, fills}
 use Rattle.model.proofs.Basics.{split, clash}
@@ -106,10 +106,10 @@ module _ {k : Kind} {s times : List ℕ} {first : List Span} {handles : List ℕ
         rw (too_many k (now_held ++ ts) slot h z more, and-false)))
 
     pub broken-refused : {slot most : ℕ} {b : Bool} {v : List ℕ} → slot ≡ slot_of tag → most ≡ get_or (by_slot (most_for k)) slot 0
-        → v ≡ between s start end → b ≡ child_taken slot most (get_or times slot 0) (tlv tag v) → not b ≡ true → broken k s ≡ true
+        → v ≡ between s start end → b ≡ child_taken slot most (get_or times slot 0) (tlv tag v) → b ≡ false → broken k s ≡ true
     broken-refused {slot} {most} s-is m-is v-is told refused =
         let e : child_taken slot most (get_or times slot 0) child ≡ false =
-        ap (λ (x : List ℕ). child_taken slot most (get_or times slot 0) (tlv tag x)) (sym v-is) ∙ sym told ∙ not-true _ refused in
+        ap (λ (x : List ℕ). child_taken slot most (get_or times slot 0) (tlv tag x)) (sym v-is) ∙ sym told ∙ refused in
         not_taken k child s-is m-is (get_or times slot 0) e broken-child
         (λ z l. let h : slot < slots = listed-slot k child s-is m-is z in
         let m : most ≡ most_for k (slot_field slot) = listed-most k child s-is m-is z in

@@ -2,7 +2,7 @@
 -- handles stand.
 -- Assumes nothing.
 use mathlib.Core.Path.{◌≡◌, refl, sym, ap, ◌∙◌}
-use mathlib.Core.Bool.{Bool, true, false, not}
+use mathlib.Core.Bool.{Bool, true}
 use mathlib.Core.List.{List, [], ◌∷◌, ◌++◌}
 use Prim.Native.Nat.{ℕ, suc, ◌+◌, ◌-◌, ◌≤◌, ◌<◌}
 use native.Mathlib.Nat.{add-zero}
@@ -11,7 +11,7 @@ use native.Mathlib.Omega.{arith}
 use lib.ListN.{length, take, get_or, set, replicate, length-set, length-append, get_or-replicate}
 use lib.Seq.{get_or-set_same, get_or-set_other, get_or_at, take-suc-set}
 use lib.Dec.{eqb, lit<}
-use borrow.Author.Tests.{eqb-true, eqb-false, ne_eqb, not-false}
+use borrow.Author.Tests.{eqb-true, eqb-false, ne_eqb}
 use Rattle.model.specs.Lists.{all}
 use Rattle.model.specs.Tlv.{Tlv, tlv, Kind, key_handle, tag_of, values_of}
 use Rattle.model.proofs.Basics.{split, both, all_append}
@@ -58,15 +58,14 @@ pub record Noted (k : Kind) (s times : List ℕ) (first : List Span) (handles : 
   pub firsts : (j : ℕ) → j < 9 → FirstAt s (values_of (slot_field j) held) (get_or first j no_span)
   pub rows_are : RowsAt s (values_of key_handle held) (get_or times 9 0) handles
 
--- whichever the command is, if these are its numbers and it has this child run, in which a place is reached
-abbrev pub NotedBy : (most run times : List ℕ) → List Span → (handles : List ℕ) → ℕ → Type 0
-NotedBy most run times first handles at =
-    (k : Kind) (s : List ℕ) → most ≡ by_slot (most_for k) → Follows s run → Noted k s times first handles (4 + at)
+-- whichever command of the kind has this child run, in which a place is reached
+abbrev pub NotedBy : Kind → (run times : List ℕ) → List Span → (handles : List ℕ) → ℕ → Type 0
+NotedBy k run times first handles at = (s : List ℕ) → Follows s run → Noted k s times first handles (4 + at)
 
-pub noted_none : (most run handles : List ℕ) → length handles ≡ 8
-    → NotedBy most run (replicate (suc slots) 0) (replicate 9 no_span) handles 0
+pub noted_none : (k : Kind) (run handles : List ℕ) → length handles ≡ 8
+    → NotedBy k run (replicate (suc slots) 0) (replicate 9 no_span) handles 0
 unfolding rows
-noted_none most run handles e k s m f =
+noted_none k run handles e s f =
     record {
       held = [];
       walked = walked_none s;
@@ -87,12 +86,12 @@ noted_none most run handles e k s m f =
 module _ {k : Kind} {s times : List ℕ} {first : List Span} {handles : List ℕ} {at tag start end : ℕ} (i : IsTlv s at tag start end)
     (so_far : Noted k s times first handles at) {slot most : ℕ} {b : Bool} {v : List ℕ} (s-is : slot ≡ slot_of tag)
     (m-is : most ≡ get_or (by_slot (most_for k)) slot 0) (v-is : v ≡ between s start end)
-    (told : b ≡ child_taken slot most (get_or times slot 0) (tlv tag v)) (passes : not b ≡ false) where
+    (told : b ≡ child_taken slot most (get_or times slot 0) (tlv tag v)) (passes : b ≡ true) where
   abbrev child : Tlv
   child = tlv tag (between s start end)
 
   taken : child_taken slot most (get_or times slot 0) child ≡ true
-  taken = ap (λ (x : List ℕ). child_taken slot most (get_or times slot 0) (tlv tag x)) (sym v-is) ∙ sym told ∙ not-false _ passes
+  taken = ap (λ (x : List ℕ). child_taken slot most (get_or times slot 0) (tlv tag x)) (sym v-is) ∙ sym told ∙ passes
 
   abbrev now_held : List Tlv
   now_held = so_far.held ++ (child ∷ [])

@@ -3,13 +3,12 @@
 use mathlib.Core.Path.{◌≡◌, refl, ap, ◌∙◌}
 use mathlib.Core.Bool.{Bool, true, false, cond, ◌&&◌, and-false, and-true}
 use mathlib.Core.List.{List, [], ◌∷◌, ◌++◌, map}
-use Prim.Native.Nat.{ℕ, zero, suc, ◌+◌, ◌≤◌, ◌<◌}
-use native.Mathlib.Numerals.{add-one}
+use Prim.Native.Nat.{ℕ, zero, suc, ◌≤◌, ◌<◌}
 use native.Mathlib.Omega.{arith}
-use lib.ListN.{length, drop, get_or, drop_of_length-le}
-use lib.Seq.{drop-cons}
+use lib.ListN.{length, get_or}
 use lib.Dec.{leb, eqb}
 use borrow.Author.Tests.{le-leb, lt-leb, leb-true, eqb-true, ne_eqb}
+use Rattle.std.specs.List.{zip, list_all}
 use Rattle.model.specs.Lists.{all}
 use Rattle.model.specs.Tlv.{Tlv, Kind, get_info, register, sign, deregister, open_settings, Field, key_handle, fields_of, values_of, times_ok}
 use Rattle.model.proofs.Basics.{split, clash, and_left, and_right}
@@ -18,23 +17,11 @@ use Rattle.params.proofs.KindLaws.{at_kind}
 
 -- ---- slot by slot
 
--- past the last slot there is nothing left
-pub enough-end : (least times : List ℕ) (slot : ℕ) → length least ≤ slot → enough (drop slot least) (drop slot times) ≡ true
+pub enough_all : (least times : List ℕ) → list_all (λ (p : ℕ × ℕ). leb p.0 p.1) (zip least times) ≡ enough least times
 unfolding enough
-enough-end least times slot h = rw (drop_of_length-le least h)
-
-module _ (least times : List ℕ) (slot : ℕ) (h : slot < length least) (k : slot < length times) where
-  enough_here : enough (drop slot least) (drop slot times)
-      ≡ (leb (get_or least slot 0) (get_or times slot 0) && enough (drop (slot + 1) least) (drop (slot + 1) times))
-  unfolding enough
-  enough_here = rw (add-one, drop-cons least slot 0 h, drop-cons times slot 0 k)
-
-  pub enough-few : get_or times slot 0 < get_or least slot 0 → enough (drop slot least) (drop slot times) ≡ false
-  enough-few n = enough_here ∙ simp (lt-leb _ _ n)
-
-  pub enough-more : get_or least slot 0 ≤ get_or times slot 0
-      → enough (drop slot least) (drop slot times) ≡ enough (drop (slot + 1) least) (drop (slot + 1) times)
-  enough-more n = enough_here ∙ simp (le-leb _ _ n)
+enough_all [] ns = refl
+enough_all (m ∷ ms) [] = refl
+enough_all (m ∷ ms) (n ∷ ns) = ap (◌&&◌ (leb m n)) (enough_all ms ns)
 
 -- ---- all that a command lists
 

@@ -1,4 +1,4 @@
--- The lent results and the call, from the parameters that carry them.
+-- The lent results and the call, from what carries them.
 use Rattle.std.specs.Prelude.{ℕ, List}
 use Rattle.std.proofs.Math.Option.{Option}
 use Rattle.model.specs.Commands.{Lent, Call}

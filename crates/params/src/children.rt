@@ -41,12 +41,5 @@ pub fn is_taken(tag: usize, v: &[u8], slot: usize, n: u8, most: u8) -> bool
 pub fn are_enough(times: [u8; ENTRIES], least: [u8; ENTRIES]) -> bool
     ensures { result ≡ enough least times }
 {
-    let mut slot = 0;
-    while slot < ENTRIES {
-        if times[slot] < least[slot] {
-            return false;
-        }
-        slot += 1;
-    }
-    true
+    least.iter().zip(times.iter()).all(|(m, n)| m <= n)
 }

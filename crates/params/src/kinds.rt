@@ -9,7 +9,7 @@ use tlv::numbers::get16;
 use utf8::is_utf8;
 
 // The five commands.
-#[derive(Clone, Copy)]
+#[derive(Clone, Copy, Debug, PartialEq, Eq)]
 pub enum Kind {
     GetInfo,
     Register,
@@ -18,32 +18,25 @@ pub enum Kind {
     OpenSettings,
 }
 
-// The command that the outer tag names.
-#[derive(Clone, Copy)]
-pub enum Named {
-    Command(Kind),
-    Unknown,
-}
-
 // Which command it is, by its outer tag; none with fewer than four bytes.
-pub fn kind_of(s: &[u8]) -> Named
+pub fn kind_of(s: &[u8]) -> Option<Kind>
     ensures { named_as result ≡ kind_of s.now }
 {
     if s.len() < 4 {
-        return Named::Unknown;
+        return None;
     }
-    let tag = get16(s, 0);
-    match tag {
-        tags::GETINFO_CMD => Named::Command(Kind::GetInfo),
-        tags::REGISTER_CMD => Named::Command(Kind::Register),
-        tags::SIGN_CMD => Named::Command(Kind::Sign),
-        tags::DEREGISTER_CMD => Named::Command(Kind::Deregister),
-        tags::OPEN_SETTINGS_CMD => Named::Command(Kind::OpenSettings),
-        _ => Named::Unknown,
+    match get16(s, 0) {
+        tags::GETINFO_CMD => Some(Kind::GetInfo),
+        tags::REGISTER_CMD => Some(Kind::Register),
+        tags::SIGN_CMD => Some(Kind::Sign),
+        tags::DEREGISTER_CMD => Some(Kind::Deregister),
+        tags::OPEN_SETTINGS_CMD => Some(Kind::OpenSettings),
+        _ => None,
     }
 }
 
-// The fields that commands list have slots, numbered in an order that every command's list keeps.
+// The fields that commands list have slots, numbered in an order that every command's list keeps. They are numbers and no enum, since they index the
+// arrays of a listing, and since `slot_fits` promises its answer for every number.
 pub const INDEX: usize = 0;
 
 pub const APP_ID: usize = 1;
@@ -150,17 +143,10 @@ pub fn slot_fits(slot: usize, v: &[u8]) -> bool
     if !allows(size_of(slot), v.len()) {
         return false;
     }
-    if slot == INDEX {
-        return v[0] == 0;
+    match slot {
+        INDEX => v[0] == 0,
+        USERNAME => is_utf8(v),
+        KEY_ID => v.is_empty() || v.len() == 32,
+        _ => true,
     }
-    if slot == USERNAME {
-        return is_utf8(v);
-    }
-    if slot == KEY_ID {
-        if v.len() == 0 {
-            return true;
-        }
-        return v.len() == 32;
-    }
-    true
 }

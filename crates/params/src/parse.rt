@@ -70,30 +70,28 @@ fn params_at(least: [u8; ENTRIES], times: [u8; ENTRIES], first: [Span; KEY_HANDL
 const HEADER: usize = 4;
 
 // Reads the child run of a command of this kind, in one walk: each child is taken or the command is broken, and each listed one is noted, key
-// handles in what is lent for them. Places count from the command's first byte.
+// handles in what is lent for them. Places count from the command's first byte. The walk is a `loop`, since what is read says where the next child begins.
+#[tactic(auto, using(crate::proofs::KindLaws::slot_most))]
 fn read_children(run: &[u8], kind: Kind, handles: &mut [usize]) -> Params
     requires { length handles.old ≡ 8 }
     ensures { ChildrenRead (kind_is kind) run.now handles.new result }
 {
     let listing = kinds::listed(kind);
-    let least = listing.least;
-    let most = listing.most;
     let mut times = [0u8; ENTRIES];
     let mut first = [NO_SPAN; KEY_HANDLE];
     let mut at = 0;
     loop {
-        let h = tlv_at(run, at);
-        match h {
-            Head::End => return params_at(least, times, first),
+        match tlv_at(run, at) {
+            Head::End => return params_at(listing.least, times, first),
             Head::Bad => return no_params(),
             Head::Tlv { tag, start, end } => {
                 let slot = kinds::slot_of(tag);
                 let n = times[slot];
-                let at_most = most[slot];
-                if !is_taken(tag, &run[start..end], slot, n, at_most) {
+                let most = listing.most[slot];
+                if !is_taken(tag, &run[start..end], slot, n, most) {
                     return no_params();
                 }
-                if 0 < at_most {
+                if 0 < most {
                     if slot == KEY_HANDLE {
                         handles[n as usize] = HEADER + start;
                     } else {

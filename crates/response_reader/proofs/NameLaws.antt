@@ -9,6 +9,8 @@ use native.Mathlib.Omega.{arith}
 use lib.ListN.{length, take, drop, set, length-set, take-append-drop}
 use lib.Seq.{drop-drop, take-suc-set}
 use lib.Dec.{leb, eqb}
+use Rattle.std.specs.Prelude.{Option, None}
+use Rattle.std.specs.Bool.{then_some}
 use borrow.Author.Tests.{leb-true, leb-false, eqb-true, eqb-false, le-leb, lt-leb, eq-eqb, ne_eqb}
 use Rattle.model.specs.Lists.{any, select, distinct}
 use Rattle.model.specs.Tlv.{rule_of, tag_of, ok, key_handle, sign, pair_tag, response_tag}
@@ -27,7 +29,7 @@ use Rattle.layouts.specs.Places.{nowhere, reads_at, obeys, after_group}
 use Rattle.layouts.proofs.PlaceLaws.{past_head_lem, read_end, read_group, then-field, then-last, from_front, in_before, tlv-before}
 use Rattle.layouts.proofs.SizeLaws.{Layered, nothing, one, layered, length_front, parts_front, parts_nothing}
 use Rattle.response_reader.specs.Met.{part_at, met}
-use Rattle.response_reader.specs.Responses.{Opened, handles, handles_from, KeysAre}
+use Rattle.response_reader.specs.Responses.{Opened, handles, handles_from, KeysOf, KeysAre}
 use Rattle.response_reader.proofs.MetLaws.{met-end, met-tlv, walked, parts-met}
 
 -- ---- what a pair holds
@@ -157,18 +159,6 @@ keyed_none s from at h =
       keys = refl;
     }
 
--- a stretch that at most eight pairs do not fill
-not_keyed : {s at : List ℕ} {from : ℕ} → length at ≡ 8 → ((m : ℕ) → m < 8 → reads_at (name_pairs (suc m)) s from ≡ false)
-    → KeysAre s from at 0
-not_keyed {s} z f =
-    record {
-      few = omega arith;
-      sized = z;
-      number = λ m h. f m h ∙ sym (ne_eqb (suc m) 0 (λ e. omega arith));
-      within = none_within s;
-      keys = λ h. absurd (omega arith);
-    }
-
 module _ {s at : List ℕ} {from n place : ℕ} (i : Keyed s from at n place) where
   -- a pair more
   pub keyed_next : {to : ℕ} → (place ≡ length s → ⊥) → to ≡ after_pair s place → to ≤ length s → n < 8
@@ -190,31 +180,28 @@ module _ {s at : List ℕ} {from n place : ℕ} (i : Keyed s from at n place) wh
       }
 
   -- all of them
-  pub keyed_all : place ≡ length s → KeysAre s from at n
+  pub keyed_all : place ≡ length s → KeysOf s from at n
   unfolding handles_from
   keyed_all e =
       record {
         few = i.few;
-        sized = i.sized;
         number = λ m h. i.number (suc m) ∙ rw (pairs_end s place (suc m - n) e) (exactly n (suc m));
         within = i.within;
-        keys =
-            λ h.
-            let g : met s place ≡ [] = met-end s place (head_end s place (omega arith)) in
-            i.keys ∙ rw g (append-nil (rows 0 (take n at) s));
+        keys = let g : met s place ≡ [] = met-end s place (head_end s place (omega arith)) in i.keys ∙ rw g (append-nil (rows 0 (take n at) s));
       }
 
   -- something else than pairs
-  pub keyed_bad : {to : ℕ} → (place ≡ length s → ⊥) → to ≡ after_pair s place → length s < to
-      → KeysAre s from at 0
-  keyed_bad h e l = not_keyed i.sized (λ m k. i.number (suc m) ∙ rw (pairs_bad s place h e l (suc m - n)) (and-false (leb n (suc m))))
+  pub keyed_bad : {to : ℕ} → (place ≡ length s → ⊥) → to ≡ after_pair s place → length s < to → KeysAre s from at None
+  keyed_bad h e l m k = i.number (suc m) ∙ rw (pairs_bad s place h e l (suc m - n)) (and-false (leb n (suc m)))
 
-  -- more than eight
-  pub keyed-more : 8 ≤ n → (place ≡ length s → ⊥) → KeysAre s from at 0
-  keyed-more k h =
-      not_keyed i.sized
+  -- eight, and nothing more
+  pub keyed_eight : {r : Option ℕ} → n ≡ 8 → r ≡ then_some (eqb place (length s)) 8 → KeysAre s from at r
+  keyed_eight e f =
+      split (eqb place (length s))
+      (λ b. rw (f, b) (rw e at (keyed_all (eqb-true _ _ b))))
+      (λ b. rw (f, b)
       (λ m l. let x : suc m - n ≡ 0 = omega arith in
-      i.number (suc m) ∙ rw (x, read_end s place, ne_eqb place (length s) h) (and-false (leb n (suc m))))
+      i.number (suc m) ∙ rw (x, read_end s place, b) (and-false (leb n (suc m)))))
 
 -- ---- the whole list
 
@@ -247,7 +234,7 @@ module _ (s : List ℕ) (o : Opened (response_tag sign) s) where
       let i = in_before (omega (arith, j)) (response_tag sign) o.inside in
       rw (parts-met (name_list n) s (both (pairs_plain n).0 refl) e, met-tlv i, met-tlv j)
 
-  module _ {at : List ℕ} {n : ℕ} (k : KeysAre s 10 at n) where
+  module _ {at : List ℕ} {n : ℕ} (k : KeysOf s 10 at n) where
     list_is : (m : ℕ) → 2 ≤ m → m < 9 → reads (name_list m) s ≡ eqb m n
     list_is zero l u = absurd (omega arith)
     list_is (suc m) l u = list_reads (suc m) ∙ k.number m (omega arith)
@@ -261,5 +248,14 @@ module _ (s : List ℕ) (o : Opened (response_tag sign) s) where
     list-distinct true e =
         let h : 2 ≤ n = leb-true _ _ e in
         let y : reads (name_list n) s ≡ true = list_is n h (omega (arith, k.few)) ∙ eq-eqb n n refl in
-        rw (list_any, e, list_keys n y, k.keys (omega arith))
+        rw (list_any, e, list_keys n y, k.keys)
     list-distinct false e = rw (list_any, e)
+
+  -- no pairs alone
+  module _ (k : (m : ℕ) → m < 8 → reads_at (name_pairs (suc m)) s 10 ≡ false) where
+    unlisted : (m : ℕ) → 2 ≤ m → m < 9 → reads (name_list m) s ≡ eqb m 0
+    unlisted zero l u = absurd (omega arith)
+    unlisted (suc m) l u = list_reads (suc m) ∙ k m (omega arith) ∙ sym (ne_eqb (suc m) 0 (λ z. omega arith))
+
+    pub list_none : false ≡ (any (λ n. reads (name_list n) s) list_lengths && distinct (listed_keys s))
+    list_none = let e = any-run (λ m. reads (name_list m) s) 0 2 7 (omega arith) unlisted in rw e

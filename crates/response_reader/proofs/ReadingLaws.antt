@@ -8,6 +8,7 @@ use native.Mathlib.Omega.{arith}
 use lib.ListN.{length, take, drop}
 use lib.Seq.{take_all}
 use lib.Dec.{leb}
+use Rattle.std.specs.Prelude.{Ok}
 use borrow.Author.Tests.{leb-true}
 use Rattle.model.specs.Tlv.{num}
 use Rattle.model.specs.Layouts.{size}
@@ -22,7 +23,7 @@ use Rattle.tlv.specs.Spans.{span, Inside}
 use Rattle.tlv.specs.declared.heads.Span.{Span}
 use Rattle.layouts.proofs.SizeLaws.{fields-number}
 use Rattle.response_reader.specs.Met.{part_at, met_past, met, span_of, signed_met}
-use Rattle.response_reader.specs.Readings.{Columns, columns, parts_of, left, reading_of, refusal_of, signed_bytes}
+use Rattle.response_reader.specs.Readings.{Columns, columns, parts_of, left, reading_of, signed_bytes}
 use Rattle.response_reader.proofs.MetLaws.{parts-met}
 use Rattle.response_reader.proofs.ShapeLaws.{response_read}
 use Rattle.response_reader.proofs.SignedLaws.{first_signed}
@@ -74,8 +75,8 @@ part-stretch : (s : List ℕ) (p : Stretch) → part s (span_of p) ≡ take p.si
 part-stretch s p = let e : p.place + p.size - p.place ≡ p.size = omega arith in rw e
 
 pub read_signed : (s : List ℕ) {p : Span} → is_response s ≡ true → p ≡ signed_met s
-    → (part s p ≡ signed_bytes (read_response s) s) × (0 ≡ refusal_of (read_response s))
-read_signed s e f = rw (response-is s e, f) (part-stretch s (first_signed (met s 0)), refl)
+    → gave (part s p) ≡ signed_bytes (read_response s) s
+read_signed s e f = rw (response-is s e, f) (ap gave (part-stretch s (first_signed (met s 0))))
 
 -- a response has at most 17 fields
 pub few-fields : (s : List ℕ) → is_response s ≡ true → length (field_parts s) ≤ 17
@@ -86,7 +87,7 @@ few-fields s e =
 
 pub read-fields : (ts ps ls : List ℕ) {s tags places lengths : List ℕ} {t status n : ℕ} → is_response s ≡ true → NumberAt 2 s 0 t
     → NumberAt 2 s 8 status → columns tags places lengths n ≡ parts_of (field_parts s)
-    → left (record { refusal = 0; tag = t; status = status; count = n }) tags places lengths ≡ reading_of (read_response s) ts ps ls
+    → left (Ok (record { tag = t; status = status; count = n })) tags places lengths ≡ reading_of (read_response s) ts ps ls
 unfolding reading_of parts_of
 read-fields ts ps ls {s} {n = n} e k m f =
     let a : n ≡ length (field_parts s) =

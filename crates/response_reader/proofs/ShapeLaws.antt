@@ -145,13 +145,26 @@ pub none_among : (n : ℕ) (ns : List ℕ) → NoneOf (λ m. m) (Unit {0}) n ns 
 none_among n ns h = none_of (Unit {0}) n ns h
 
 -- the command is known by its tag
-pub alone_at : {t : ℕ} (n : ℕ) {b : Bool} (k : Kind) → t ≡ response_tag k → b ≡ any (eqb n) (statuses k) → b ≡ alone t n
-unfolding alone
-alone_at n get_info e f = f ∙ rw e (simp or-false)
-alone_at n register e f = f ∙ rw e (simp or-false)
-alone_at n sign e f = f ∙ rw e (simp or-false)
-alone_at n deregister e f = f ∙ rw e (simp or-false)
-alone_at n open_settings e f = f ∙ rw e (simp or-false)
+module _ {t : ℕ} (n : ℕ) {b : Bool} where
+  pub alone_info : t ≡ response_tag get_info → b ≡ any (eqb n) (statuses get_info) → b ≡ alone t n
+  unfolding alone
+  alone_info e f = f ∙ rw e (simp or-false)
+
+  pub alone_register : t ≡ response_tag register → b ≡ any (eqb n) (statuses register) → b ≡ alone t n
+  unfolding alone
+  alone_register e f = f ∙ rw e (simp or-false)
+
+  pub alone_sign : t ≡ response_tag sign → b ≡ any (eqb n) (statuses sign) → b ≡ alone t n
+  unfolding alone
+  alone_sign e f = f ∙ rw e (simp or-false)
+
+  pub alone_deregister : t ≡ response_tag deregister → b ≡ any (eqb n) (statuses deregister) → b ≡ alone t n
+  unfolding alone
+  alone_deregister e f = f ∙ rw e (simp or-false)
+
+  pub alone_open_settings : t ≡ response_tag open_settings → b ≡ any (eqb n) (statuses open_settings) → b ≡ alone t n
+  unfolding alone
+  alone_open_settings e f = f ∙ rw e (simp or-false)
 
 pub alone_none : {t : ℕ} (n : ℕ) → NoneOf response_tag (Unit {0}) t kinds → alone t n ≡ false
 unfolding alone
@@ -163,6 +176,9 @@ alone_none n h =
       ne_eqb _ _ h.0.0.0.1,
       ne_eqb _ _ h.0.0.0.0.1,
     )
+
+-- of each command, and of a tag that names none
+pub ruleset alone_laws = (alone_info, alone_register, alone_sign, alone_deregister, alone_open_settings, alone_none)
 
 any_as : (p : Layout → Bool) (f : Kind → Layout) (q : Kind → Bool) → ((k : Kind) → p (f k) ≡ q k) → (ks : List Kind)
     → any p (map f ks) ≡ any q ks

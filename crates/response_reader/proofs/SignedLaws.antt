@@ -7,6 +7,9 @@ use mathlib.Core.List.{List, [], ◌∷◌, map}
 use Prim.Native.Nat.{ℕ, ◌+◌, ◌-◌, ◌≤◌, ◌<◌}
 use native.Mathlib.Omega.{arith}
 use lib.ListN.{length, get_or}
+use Rattle.std.specs.Prelude.{Option, Some, None}
+use Rattle.std.specs.Bool.{then_some}
+use Rattle.std.specs.Option.{is_some, IfSome}
 use lib.Dec.{leb, eqb}
 use borrow.Author.Tests.{leb-true, not-true, eq-eqb, ne_eqb}
 use Rattle.model.specs.Lists.{all, any, select, first, distinct}
@@ -26,11 +29,9 @@ use Rattle.layouts.proofs.PlaceLaws.{then-group, from_front, in_before, tlv-befo
 use Rattle.layouts.proofs.SizeLaws.{lacks_none}
 use Rattle.response_reader.specs.Met.{met, span_of, signed_met}
 use Rattle.response_reader.specs.Responses.{alone, headed, Opened, Longer, in_assertion}
-use Rattle.response_reader.specs.Shapes.{shape_if, shape_of, is_shape, signed_at, OpeningIs}
+use Rattle.response_reader.specs.Shapes.{shape_of, signed_at, OpeningIs}
 use Rattle.response_reader.specs.declared.shapes.Opening.{Opening}
-use Rattle.response_reader.specs.declared.shapes.Opening.TheVariants.{NoResponse as NoOpening, Alone, Longer as MoreAfter}
-use Rattle.response_reader.specs.declared.shapes.Shape.{Shape}
-use Rattle.response_reader.specs.declared.shapes.Shape.TheVariants.{NoResponse, Response}
+use Rattle.response_reader.specs.declared.shapes.Opening.TheVariants.{Alone, Longer as MoreAfter}
 use Rattle.response_reader.proofs.MetLaws.{met-tlv, parts-met}
 use Rattle.response_reader.proofs.OpeningLaws.{Headed, headed-is, status_in, status-is, opened}
 use Rattle.response_reader.proofs.ShapeLaws.{then_assertion, alone-any, alone-is, status_bad, info-is, registered-is, signed_is}
@@ -131,20 +132,20 @@ module _ {s : List ℕ} where
 
 -- ---- what a stretch is
 
-pub shape_no : (s : List ℕ) → is_response s ≡ false → NoResponse ≡ shape_of s
+pub shape_no : (s : List ℕ) → is_response s ≡ false → None ≡ shape_of s
 unfolding shape_of
 shape_no s e = rw e
 
-shape_yes : (s : List ℕ) {p : Span} → is_response s ≡ true → p ≡ signed_met s → Response p ≡ shape_of s
+shape_yes : (s : List ℕ) {p : Span} → is_response s ≡ true → p ≡ signed_met s → Some p ≡ shape_of s
 unfolding shape_of
 shape_yes s e f = rw (e, f)
 
 -- by a test of what has no signed structure
-shape_plain : (s : List ℕ) (b : Bool) → is_response s ≡ b → (b ≡ true → no_span ≡ signed_met s) → shape_if b no_span ≡ shape_of s
+shape_plain : (s : List ℕ) (b : Bool) → is_response s ≡ b → (b ≡ true → no_span ≡ signed_met s) → then_some b no_span ≡ shape_of s
 shape_plain s true e f = shape_yes s e (f refl)
 shape_plain s false e f = shape_no s e
 
-pub info_shape : (s : List ℕ) {b : Bool} → Longer (response_tag get_info) s → b ≡ reads info s → shape_if b no_span ≡ shape_of s
+pub info_shape : (s : List ℕ) {b : Bool} → Longer (response_tag get_info) s → b ≡ reads info s → then_some b no_span ≡ shape_of s
 info_shape s {b} g e = shape_plain s b (info-is g ∙ sym e) (λ f. none_signed s (info ∷ []) refl (rw (← e, f)))
 
 -- one of the two forms of a completed registration, and of a completed Sign
@@ -155,7 +156,7 @@ abbrev pub is_signed_as : List ℕ → Bool
 is_signed_as s = reads (signed true) s || reads (signed false) s
 
 pub names_shape : (s : List ℕ) {a b : Bool} → Longer (response_tag sign) s → a ≡ is_signed_as s → a ≡ false
-    → b ≡ (any (λ n. reads (name_list n) s) list_lengths && distinct (listed_keys s)) → shape_if b no_span ≡ shape_of s
+    → b ≡ (any (λ n. reads (name_list n) s) list_lengths && distinct (listed_keys s)) → then_some b no_span ≡ shape_of s
 names_shape s {a} {b} g e f h =
     let r : is_response s ≡ b = signed_is g ∙ rw (← e, f, ← h) in
     shape_plain s b r
@@ -166,7 +167,7 @@ module _ (s : List ℕ) {a : Bool} (y : a ≡ true) where
   pub signed-complete : Longer (response_tag sign) s → a ≡ is_signed_as s → Completed s
   signed-complete g e = either (reads (signed true) s) (reads (signed false) s) (sym e ∙ y) (signed_with true g) (signed_with false g)
 
-  pub signed_shape : Longer (response_tag sign) s → a ≡ is_signed_as s → Response (signed_at s) ≡ shape_of s
+  pub signed_shape : Longer (response_tag sign) s → a ≡ is_signed_as s → Some (signed_at s) ≡ shape_of s
   signed_shape g e = shape_yes s (signed_is g ∙ rw (← e, y)) (signed-complete g e).at_18
 
   pub registered-complete : Longer (response_tag register) s → a ≡ is_registered_as s → Completed s
@@ -176,22 +177,23 @@ module _ (s : List ℕ) {a : Bool} (y : a ≡ true) where
       either (reads with-full s) (reads with-surrogate s) (sym e ∙ y) (registered_with full (signature ∷ certificate ∷ []) g)
       (registered_with surrogate (signature ∷ []) g)
 
-  pub registered_shape : Longer (response_tag register) s → a ≡ is_registered_as s → Response (signed_at s) ≡ shape_of s
+  registered_shape : Longer (response_tag register) s → a ≡ is_registered_as s → Some (signed_at s) ≡ shape_of s
   registered_shape g e = shape_yes s (registered-is g ∙ sym e ∙ y) (registered-complete g e).at_18
 
-pub registered_no : (s : List ℕ) {a : Bool} → a ≡ false → Longer (response_tag register) s → a ≡ is_registered_as s → NoResponse ≡ shape_of s
-registered_no s f g e = shape_no s (registered-is g ∙ sym e ∙ f)
+-- its signed structure, if it is one
+pub registered_then : (s : List ℕ) {a : Bool} {r : Option Span} → is_some r ≡ a → IfSome r (λ p. p ≡ signed_at s) → Longer (response_tag register) s
+    → a ≡ is_registered_as s → r ≡ shape_of s
+registered_then s {r = Some p} v h g e = ap Some h ∙ registered_shape s (sym v) g e
+registered_then s {r = None} v h g e = shape_no s (registered-is g ∙ sym e ∙ sym v)
 
 -- by the status
 module _ {s : List ℕ} {n : ℕ} (h : Headed s) (b : get_or s 8 0 < 256) (e : n ≡ num_at 2 s 8) where
-  pub alone_no : {t : ℕ} {a : Bool} → length s ≡ 10 → t ≡ num_at 2 s 0 → a ≡ alone t n → a ≡ false → is_response s ≡ false
-  alone_no l f k z = alone-is h l b ∙ rw (← e, ← f) (sym k ∙ z)
+  alone_case : (a : Bool) → length s ≡ 10 → is_response s ≡ a → OpeningIs s (then_some a Alone)
+  alone_case true l r = (r, none_signed s (map status_only kinds) refl (sym (alone-any s l) ∙ r))
+  alone_case false l r = r
 
-  pub alone_yes : {t : ℕ} {a : Bool} → length s ≡ 10 → t ≡ num_at 2 s 0 → a ≡ alone t n → a ≡ true
-      → (is_response s ≡ true) × (no_span ≡ signed_met s)
-  alone_yes l f k z =
-      let r : is_response s ≡ true = alone-is h l b ∙ rw (← e, ← f) (sym k ∙ z) in
-      (r, none_signed s (map status_only kinds) refl (sym (alone-any s l) ∙ r))
+  pub alone_opens : {t : ℕ} {a : Bool} → length s ≡ 10 → t ≡ num_at 2 s 0 → a ≡ alone t n → OpeningIs s (then_some a Alone)
+  alone_opens {a = a} l f k = alone_case a l (alone-is h l b ∙ rw (← e, ← f) (sym k))
 
   fits-ok : fits ok (status_in s) ≡ eqb n 0
   fits-ok = status-is s (0 ∷ []) h.long b refl ∙ rw (← e) (or-false (eqb n 0))
@@ -208,29 +210,29 @@ pub more_after : (s : List ℕ) → headed s ≡ true → get_or s 8 0 < 256 →
 more_after s h b l f = status-no (headed-is h) b refl l f
 
 -- by how it starts
-module _ (s : List ℕ) {r : Opening} (i : OpeningIs s r) where
-  pub opening_no : r ≡ NoOpening → is_response s ≡ false
+module _ (s : List ℕ) {r : Option Opening} (i : OpeningIs s r) where
+  pub opening_no : r ≡ None → is_response s ≡ false
   opening_no e = rw e at i
 
-  pub opening-alone : r ≡ Alone → (is_response s ≡ true) × (Response no_span ≡ shape_of s)
+  pub opening-alone : r ≡ Some Alone → (is_response s ≡ true) × (Some no_span ≡ shape_of s)
   opening-alone e = let k : (is_response s ≡ true) × (no_span ≡ signed_met s) = rw e at i in (k.0, shape_yes s k.0 k.1)
 
-  pub opening_longer : {t : ℕ} → r ≡ MoreAfter t → Longer t s
+  pub opening_longer : {t : ℕ} → r ≡ Some (MoreAfter t) → Longer t s
   opening_longer e = rw e at i
 
 -- ---- what it says of the stretch
 
-pub no_response : (s : List ℕ) {r : Shape} → r ≡ shape_of s → r ≡ NoResponse → is_response s ≡ false
+pub no_response : (s : List ℕ) {r : Option Span} → r ≡ shape_of s → r ≡ None → is_response s ≡ false
 unfolding shape_of
-no_response s e f = split (is_response s) (λ h. let k : Response (signed_met s) ≡ NoResponse = sym (rw h at e) ∙ f in impossible cc) (λ h. h)
+no_response s e f = split (is_response s) (λ h. let k : Some (signed_met s) ≡ None = sym (rw h at e) ∙ f in impossible cc) (λ h. h)
 
-pub response_with : (s : List ℕ) {r : Shape} {p : Span} → r ≡ shape_of s → r ≡ Response p → (is_response s ≡ true) × (p ≡ signed_met s)
+pub response_with : (s : List ℕ) {r : Option Span} {p : Span} → r ≡ shape_of s → r ≡ Some p → (is_response s ≡ true) × (p ≡ signed_met s)
 unfolding shape_of
 response_with s {p = p} e f =
     split (is_response s)
-    (λ h. let k : Response (signed_met s) ≡ Response p = sym (rw h at e) ∙ f in (h, cc))
-    (λ h. let k : NoResponse ≡ Response p = sym (rw h at e) ∙ f in impossible cc)
+    (λ h. let k : Some (signed_met s) ≡ Some p = sym (rw h at e) ∙ f in (h, cc))
+    (λ h. let k : None ≡ Some p = sym (rw h at e) ∙ f in impossible cc)
 
-pub is_shape_of : (s : List ℕ) {r : Shape} → r ≡ shape_of s → is_shape r ≡ is_response s
+pub is_shape_of : (s : List ℕ) {r : Option Span} → r ≡ shape_of s → is_some r ≡ is_response s
 unfolding shape_of
 is_shape_of s e = rw e (split (is_response s) (λ h. rw h) (λ h. rw h))

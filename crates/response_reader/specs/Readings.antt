@@ -1,20 +1,29 @@
 -- What the two calls of the reader give.
-use Rattle.std.specs.Prelude.{ℕ, List, [], map, length, take, drop}
-use Rattle.model.specs.Commands.{Result, refused, gave}
+use Rattle.std.specs.Prelude.{ℕ, List, map, length, take, drop, Result, Ok, Err}
+use denote.Ref.{Bor}
+use Rattle.model.specs.Commands as model
+use Rattle.model.specs.Commands.{refused, gave}
+use Rattle.model.specs.Reader as Reader
 use Rattle.model.specs.Reader.{Part}
-use Rattle.model.specs.Reader as model
 use Rattle.tlv.specs.Firsts.{firsts}
+use Rattle.fields.specs.declared.refusals.Refusal.{Refusal}
+use Rattle.fields.specs.Refusals.{number}
 use Rattle.response_reader.specs.declared.readings.Reading.{Reading}
 
--- 0, or the refusal's number
-abbrev pub refusal_of : Result model.Reading → ℕ
-refusal_of (refused n) = n
-refusal_of (gave r) = 0
+-- what a call gave, or its refusal by its number
+abbrev pub answer : {A : Type 0} → Result A Refusal → model.Result A
+answer (Err r) = refused (number r)
+answer (Ok a) = gave a
 
--- the signed stretch of the caller's bytes; after a refusal it is empty
-abbrev pub signed_bytes : Result model.Reading → List ℕ → List ℕ
-signed_bytes (refused n) s = []
-signed_bytes (gave r) s = take r.signed.size (drop r.signed.place s)
+-- the bytes that the first call lends
+abbrev pub lent : Result (Bor (List ℕ)) Refusal → model.Result (List ℕ)
+lent (Err r) = refused (number r)
+lent (Ok p) = gave p.now
+
+-- the signed stretch of the caller's bytes
+abbrev pub signed_bytes : model.Result Reader.Reading → List ℕ → model.Result (List ℕ)
+signed_bytes (refused n) s = refused n
+signed_bytes (gave r) s = gave (take r.signed.size (drop r.signed.place s))
 
 -- one number of each of the first 17 parts, and 0 for each that is lacking
 abbrev pub column : (Part → ℕ) → List Part → List ℕ
@@ -36,17 +45,21 @@ parts_of ps = columns (column (λ p. p.tag) ps) (column (λ p. p.place) ps) (col
 
 -- what the second call gives and leaves
 pub record Left : Type 0 where
-  pub reading : Reading
+  pub reading : model.Result Reading
   pub tags : List ℕ
   pub places : List ℕ
   pub lengths : List ℕ
 
-abbrev pub left : Reading → (tags places lengths : List ℕ) → Left
-left r ts ps ls = record { reading = r; tags = ts; places = ps; lengths = ls }
+abbrev pub left : Result Reading Refusal → (tags places lengths : List ℕ) → Left
+left r ts ps ls = record { reading = answer r; tags = ts; places = ps; lengths = ls }
 
 -- by the model's result and the columns lent
-unfoldable pub reading_of : Result model.Reading → (tags places lengths : List ℕ) → Left
-reading_of (refused n) ts ps ls = left (record { refusal = n; tag = 0; status = 0; count = 0 }) ts ps ls
+unfoldable pub reading_of : model.Result Reader.Reading → (tags places lengths : List ℕ) → Left
+reading_of (refused n) ts ps ls = record { reading = refused n; tags = ts; places = ps; lengths = ls }
 reading_of (gave r) ts ps ls =
-    left (record { refusal = 0; tag = r.tag; status = r.status; count = length r.fields }) (column (λ p. p.tag) r.fields)
-    (column (λ p. p.place) r.fields) (column (λ p. p.size) r.fields)
+    record {
+      reading = gave (record { tag = r.tag; status = r.status; count = length r.fields });
+      tags = column (λ p. p.tag) r.fields;
+      places = column (λ p. p.place) r.fields;
+      lengths = column (λ p. p.size) r.fields;
+    }

@@ -1,5 +1,5 @@
 -- Parts of the test whether bytes are a response.
-use Rattle.std.specs.Prelude.{◌≡◌, ℕ, suc, ◌-◌, ◌≤◌, ◌<◌, Bool, not, ◌&&◌, List, map, length, take, leb, eqb}
+use Rattle.std.specs.Prelude.{◌≡◌, ℕ, suc, ◌-◌, ◌≤◌, ◌<◌, Bool, not, ◌&&◌, List, map, length, take, leb, eqb, false, Option, Some, None}
 use Rattle.model.specs.Lists.{any, select}
 use Rattle.model.specs.Tlv.{tag_of, ok, kinds, response_tag, assertion_tag}
 use Rattle.model.specs.Commands.{statuses, name_pairs}
@@ -40,10 +40,14 @@ handles ps = select (λ p. is_handle p.tag) (select (λ p. not (holds p.tag)) ps
 unfoldable pub handles_from : List ℕ → ℕ → List (List ℕ)
 handles_from s at = map (cut s) (handles (met s at))
 
--- from a place on there are n pairs and nothing else, with the KeyIDs at the first n of these places; n is 0 where there is anything else
-pub record KeysAre (s : List ℕ) (from : ℕ) (places : List ℕ) (n : ℕ) : Type 0 where
+-- from a place on there are n pairs and nothing else, with the KeyIDs at the first n of these places
+pub record KeysOf (s : List ℕ) (from : ℕ) (places : List ℕ) (n : ℕ) : Type 0 where
   pub few : n ≤ 8
-  pub sized : length places ≡ 8
   pub number : (m : ℕ) → m < 8 → reads_at (name_pairs (suc m)) s from ≡ eqb (suc m) n
   pub within : Within 0 (take n places) s
-  pub keys : 0 < n → handles_from s from ≡ rows 0 (take n places) s
+  pub keys : handles_from s from ≡ rows 0 (take n places) s
+
+-- a reader gave their number and left these places, or gave none where one to eight pairs do not fill the stretch
+abbrev pub KeysAre : (s : List ℕ) (from : ℕ) (places : List ℕ) → Option ℕ → Type 0
+KeysAre s from places None = (m : ℕ) → m < 8 → reads_at (name_pairs (suc m)) s from ≡ false
+KeysAre s from places (Some n) = KeysOf s from places n

@@ -1,5 +1,6 @@
--- What a stretch is, as the code tells it.
-use Rattle.std.specs.Prelude.{◌≡◌, ℕ, ◌+◌, Bool, true, false, cond, List}
+-- Whether a stretch is a response, and where its signed structure stands, as the code tells it.
+use Rattle.std.specs.Prelude.{◌≡◌, ℕ, ◌+◌, true, false, List, Option, Some, None}
+use Rattle.std.specs.Bool.{then_some}
 use Rattle.model.specs.Reader.{is_response}
 use Rattle.tlv.specs.Numbers.{num_at}
 use Rattle.tlv.specs.Spans.{span, no_span}
@@ -7,28 +8,17 @@ use Rattle.tlv.specs.declared.heads.Span.{Span}
 use Rattle.response_reader.specs.Met.{signed_met}
 use Rattle.response_reader.specs.Responses.{Longer}
 use Rattle.response_reader.specs.declared.shapes.Opening.{Opening}
-use Rattle.response_reader.specs.declared.shapes.Opening.TheVariants.{NoResponse as NoOpening, Alone, Longer as MoreAfter}
-use Rattle.response_reader.specs.declared.shapes.Shape.{Shape}
-use Rattle.response_reader.specs.declared.shapes.Shape.TheVariants.{NoResponse, Response}
+use Rattle.response_reader.specs.declared.shapes.Opening.TheVariants.{Alone, Longer as MoreAfter}
 
--- a response with this signed structure, if a test says so
-abbrev pub shape_if : Bool → Span → Shape
-shape_if b p = cond b (Response p) NoResponse
-
--- a response with its signed structure, or no response
-unfoldable pub shape_of : List ℕ → Shape
-shape_of s = shape_if (is_response s) (signed_met s)
-
--- a shape is a response's
-abbrev pub is_shape : Shape → Bool
-is_shape NoResponse = false
-is_shape (Response p) = true
+-- the signed structure of a response; none of what is no response
+unfoldable pub shape_of : List ℕ → Option Span
+shape_of s = then_some (is_response s) (signed_met s)
 
 -- what is known of a stretch by how it starts
-abbrev pub OpeningIs : List ℕ → Opening → Type 0
-OpeningIs s NoOpening = is_response s ≡ false
-OpeningIs s Alone = (is_response s ≡ true) × (no_span ≡ signed_met s)
-OpeningIs s (MoreAfter t) = Longer t s
+abbrev pub OpeningIs : List ℕ → Option Opening → Type 0
+OpeningIs s None = is_response s ≡ false
+OpeningIs s (Some Alone) = (is_response s ≡ true) × (no_span ≡ signed_met s)
+OpeningIs s (Some (MoreAfter t)) = Longer t s
 
 -- the signed structure of a completed response: the TLV at place 18
 abbrev pub signed_at : List ℕ → Span

@@ -9,30 +9,27 @@ ghost use Rattle.response_reader.specs.Responses.{Opened, KeysAre};
 use layouts::after_pair;
 use tlv::rows::all_distinct;
 
-// Notes where the KeyIDs of the pairs stand that a stretch holds from a place on, and gives their number, if it holds at most eight and nothing
-// else; else 0. A pair ends with its KeyID.
-fn keys_from(s: &[u8], from: usize, places: &mut [usize]) -> usize
-    requires { length places.old ≡ 8 }
+// "At most 8 records have one mixed token", so no list has more names.
+const MOST_NAMES: usize = 8;
+
+// Notes where the KeyIDs of the pairs stand that a stretch holds from a place on, and gives their number, if it holds at most eight and nothing else.
+// A pair ends with its KeyID.
+fn keys_from(s: &[u8], from: usize, places: &mut [usize; MOST_NAMES]) -> Option<usize>
     ensures { KeysAre s.now from places.new result }
 {
-    let mut len = 0;
     let mut place = from;
-    while len < 8 {
+    for len in 0..MOST_NAMES {
         if place == s.len() {
-            return len;
+            return Some(len);
         }
         let end = after_pair(s, place);
         if s.len() < end {
-            return 0;
+            return None;
         }
         places[len] = end - 32;
-        len += 1;
         place = end;
     }
-    if place != s.len() {
-        return 0;
-    }
-    len
+    (place == s.len()).then_some(MOST_NAMES)
 }
 
 // Sign's list of names: two to eight, with different KeyIDs.
@@ -40,10 +37,9 @@ pub fn is_name_list(s: &[u8]) -> bool
     requires { Opened (response_tag sign) s.now }
     ensures { result ≡ (any (λ n. reads (name_list n) s.now) list_lengths && distinct (listed_keys s.now)) }
 {
-    let mut places = [0usize; 8];
-    let n = keys_from(s, 10, &mut places);
-    if n < 2 {
+    let mut places = [0; MOST_NAMES];
+    let Some(n) = keys_from(s, 10, &mut places) else {
         return false;
-    }
-    all_distinct(s, &places[0..n], 0)
+    };
+    2 <= n && all_distinct(s, &places[..n], 0)
 }

@@ -8,7 +8,7 @@ ghost use Rattle.response_reader.specs.Readings.{columns, parts_of, left, readin
 ghost use Rattle.response_reader.specs.Laid.{status_row, info_rows};
 
 use crate::shapes::is_response;
-use fields::refusals::NOT_WRITTEN;
+use fields::refusals::Refusal;
 use fields::tags;
 use tlv::numbers::get16;
 
@@ -207,10 +207,9 @@ fn parts_in(
     name_fields(s, tags, places, lengths)
 }
 
-// What the second call gives beside the columns: 0 or the refusal's number; the response tag, the status and the number of fields, or zeros.
-#[derive(Clone, Copy)]
+// What the second call gives beside the columns: the response tag, the status and the number of fields.
+#[derive(Clone, Copy, Debug, PartialEq, Eq)]
 pub struct Reading {
-    pub refusal: u32,
     pub tag: usize,
     pub status: usize,
     pub count: usize,
@@ -223,23 +222,17 @@ pub fn read_fields(
     tags: &mut [usize; MOST_FIELDS],
     places: &mut [usize; MOST_FIELDS],
     lengths: &mut [usize; MOST_FIELDS],
-) -> Reading
+) -> Result<Reading, Refusal>
     ensures { left result tags.new places.new lengths.new
         ≡ reading_of (read_response s.now) tags.old places.old lengths.old }
 {
     if !is_response(s) {
-        return Reading {
-            refusal: NOT_WRITTEN,
-            tag: 0,
-            status: 0,
-            count: 0,
-        };
+        return Err(Refusal::NotWritten);
     }
     let count = parts_in(s, tags, places, lengths);
-    Reading {
-        refusal: 0,
+    Ok(Reading {
         tag: get16(s, 0),
         status: get16(s, 8),
         count,
-    }
+    })
 }

@@ -1,14 +1,11 @@
-ghost use Rattle.std.specs.Prelude.{◌≡◌, true, false, ◌||◌, [], ◌∷◌, ◌≤◌, length, eqb};
-ghost use Rattle.model.specs.Lists.{any};
-ghost use Rattle.model.specs.Tlv.{get_info, register, sign, deregister, open_settings, signature, certificate, full, surrogate, response_tag};
+ghost use Rattle.std.specs.Prelude.{◌≡◌, true, false, ◌||◌, [], ◌∷◌, ◌≤◌, length};
+ghost use Rattle.model.specs.Tlv.{get_info, register, sign, signature, certificate, full, surrogate, response_tag};
 ghost use Rattle.model.specs.Layouts.{end, field, group, fields, reads};
-ghost use Rattle.model.specs.Commands.{statuses, info};
+ghost use Rattle.model.specs.Commands.{info};
 ghost use Rattle.model.specs.Reader.{registered, signed, is_response};
-ghost use Rattle.tlv.specs.Spans.{no_span};
 ghost use Rattle.layouts.specs.Places.{reads_at};
 ghost use Rattle.response_reader.specs.Responses.{Opened, Longer, in_assertion, headed, alone};
-ghost use Rattle.response_reader.specs.Shapes.{shape_if, signed_at, shape_of, is_shape, OpeningIs};
-ghost use Rattle.response_reader.specs.declared.shapes.Shape.TheVariants.{Response};
+ghost use Rattle.response_reader.specs.Shapes.{signed_at, shape_of, OpeningIs};
 
 use crate::names::is_name_list;
 use fields::{sizes, tags};
@@ -67,10 +64,7 @@ fn is_registered(s: &[u8]) -> bool
 {
     let a1 = assertion_in(s, tags::REG_ASSERTION);
     let a2 = after_krd(s, a1);
-    if is_full(s, a2) {
-        return true;
-    }
-    is_surrogate(s, a2)
+    is_full(s, a2) || is_surrogate(s, a2)
 }
 
 // A completed Sign: the assertion holds SIGNED_DATA, with content or without, and its signature.
@@ -87,32 +81,15 @@ fn is_signed(s: &[u8]) -> bool
     end == s.len()
 }
 
-// What a stretch is: no response; or a response, whose signed structure with its header is this part, which is empty where it has none.
-#[derive(Clone, Copy)]
-pub enum Shape {
-    NoResponse,
-    Response(Span),
-}
-
-// A response without a signed structure, if a test says so.
-fn plain_if(b: bool) -> Shape
-    ensures { result ≡ shape_if b no_span }
-{
-    if b {
-        return Shape::Response(NO_SPAN);
-    }
-    Shape::NoResponse
-}
-
-// A completed response. Its signed structure stands after three headers and the status.
-fn completed(s: &[u8]) -> Shape
+// The signed structure of a completed response, with its header. It stands after three headers and the status.
+fn signed_in(s: &[u8]) -> Span
     requires { 22 ≤ length s.now }
-    ensures { result ≡ Response (signed_at s.now) }
+    ensures { result ≡ signed_at s.now }
 {
-    Shape::Response(Span {
+    Span {
         start: 18,
         end: 22 + get16(s, 20),
-    })
+    }
 }
 
 // Whether a stretch is one TLV that starts with a status. Tag and status are not looked at.
@@ -131,150 +108,79 @@ fn is_headed(s: &[u8]) -> bool
     get16(s, 6) == 2
 }
 
-// Whether Register can answer this status alone.
-fn is_of_register(status: usize) -> bool
-    ensures { result ≡ any (eqb status) (statuses register) }
-{
-    match status {
-        0x01 => true,
-        0x02 => true,
-        0x03 => true,
-        0x05 => true,
-        0x07 => true,
-        0x08 => true,
-        0x0E => true,
-        0x0F => true,
-        0x10 => true,
-        _ => false,
-    }
-}
-
-// Whether Sign can answer it alone.
-fn is_of_sign(status: usize) -> bool
-    ensures { result ≡ any (eqb status) (statuses sign) }
-{
-    match status {
-        0x01 => true,
-        0x02 => true,
-        0x03 => true,
-        0x04 => true,
-        0x05 => true,
-        0x08 => true,
-        0x0E => true,
-        0x10 => true,
-        _ => false,
-    }
-}
-
-// Whether Deregister can answer it alone.
-fn is_of_deregister(status: usize) -> bool
-    ensures { result ≡ any (eqb status) (statuses deregister) }
-{
-    match status {
-        0x00 => true,
-        0x02 => true,
-        0x08 => true,
-        _ => false,
-    }
-}
-
-// Whether OpenSettings can answer it alone.
-fn is_of_open_settings(status: usize) -> bool
-    ensures { result ≡ any (eqb status) (statuses open_settings) }
-{
-    match status {
-        0x06 => true,
-        0x08 => true,
-        _ => false,
-    }
-}
-
 // Whether the command with this response tag can answer this status alone.
+#[tactic(auto, using(crate::proofs::ShapeLaws::alone_laws))]
 fn is_alone(tag: usize, status: usize) -> bool
     ensures { result ≡ alone tag status }
 {
     match tag {
         tags::GETINFO_CMD_RESPONSE => status == 0x08,
-        tags::REGISTER_CMD_RESPONSE => is_of_register(status),
-        tags::SIGN_CMD_RESPONSE => is_of_sign(status),
-        tags::DEREGISTER_CMD_RESPONSE => is_of_deregister(status),
-        tags::OPEN_SETTINGS_CMD_RESPONSE => is_of_open_settings(status),
+        tags::REGISTER_CMD_RESPONSE => matches!(
+            status,
+            0x01 | 0x02 | 0x03 | 0x05 | 0x07 | 0x08 | 0x0E | 0x0F | 0x10
+        ),
+        tags::SIGN_CMD_RESPONSE => matches!(
+            status,
+            0x01 | 0x02 | 0x03 | 0x04 | 0x05 | 0x08 | 0x0E | 0x10
+        ),
+        tags::DEREGISTER_CMD_RESPONSE => matches!(status, 0x00 | 0x02 | 0x08),
+        tags::OPEN_SETTINGS_CMD_RESPONSE => matches!(status, 0x06 | 0x08),
         _ => false,
     }
 }
 
-// The shape of a stretch in which more follows status OK. The outer tag says which shapes it can have.
-fn shape_with(s: &[u8], tag: usize) -> Shape
+// The signed structure of a stretch in which more follows status OK, if it is a response: an empty part where it has none. The outer tag says which
+// responses it can be.
+fn shape_with(s: &[u8], tag: usize) -> Option<Span>
     requires { Longer tag s.now }
     ensures { result ≡ shape_of s.now }
 {
     match tag {
-        tags::GETINFO_CMD_RESPONSE => plain_if(is_info(s)),
-        tags::REGISTER_CMD_RESPONSE => {
-            if is_registered(s) {
-                return completed(s);
-            }
-            Shape::NoResponse
-        }
+        tags::GETINFO_CMD_RESPONSE => is_info(s).then_some(NO_SPAN),
+        tags::REGISTER_CMD_RESPONSE => is_registered(s).then(|| signed_in(s)),
         tags::SIGN_CMD_RESPONSE => {
             if is_signed(s) {
-                return completed(s);
+                return Some(signed_in(s));
             }
-            plain_if(is_name_list(s))
+            is_name_list(s).then_some(NO_SPAN)
         }
-        _ => Shape::NoResponse,
+        _ => None,
     }
 }
 
-// How a stretch starts: as no response; as a status, which is a response alone; or with this tag and status OK, and more follows.
+// How a response starts: as a status, which is a response alone; or with this tag and status OK, and more follows.
 #[derive(Clone, Copy)]
 enum Opening {
-    NoResponse,
     Alone,
     Longer(usize),
 }
 
-// How a stretch starts, by its headers and its status, each read once at its place.
+// How a stretch starts, if as a response, by its headers and its status, each read once at its place.
 #[tactic(auto, using(crate::proofs::SignedLaws::more_after))]
-fn opening_of(s: &[u8]) -> Opening
+fn opening_of(s: &[u8]) -> Option<Opening>
     ensures { OpeningIs s.now result }
 {
     if !is_headed(s) {
-        return Opening::NoResponse;
+        return None;
     }
     let tag = get16(s, 0);
     let status = get16(s, 8);
     if s.len() == 10 {
-        if is_alone(tag, status) {
-            return Opening::Alone;
-        }
-        return Opening::NoResponse;
+        return is_alone(tag, status).then_some(Opening::Alone);
     }
     if status != 0 {
-        return Opening::NoResponse;
+        return None;
     }
-    Opening::Longer(tag)
+    Some(Opening::Longer(tag))
 }
 
-// Whether a stretch is a response, and where its signed structure stands.
-pub fn shape_of(s: &[u8]) -> Shape
+// The signed structure of a response, with its header: an empty part where it has none. None where a stretch is no response.
+pub fn shape_of(s: &[u8]) -> Option<Span>
     ensures { result ≡ shape_of s.now }
 {
-    let opening = opening_of(s);
-    match opening {
-        Opening::NoResponse => Shape::NoResponse,
-        Opening::Alone => Shape::Response(NO_SPAN),
+    match opening_of(s)? {
+        Opening::Alone => Some(NO_SPAN),
         Opening::Longer(tag) => shape_with(s, tag),
-    }
-}
-
-// Whether a shape is a response's.
-fn is_shape(shape: Shape) -> bool
-    ensures { result ≡ is_shape shape }
-{
-    match shape {
-        Shape::NoResponse => false,
-        Shape::Response(_) => true,
     }
 }
 
@@ -282,10 +188,9 @@ fn is_shape(shape: Shape) -> bool
 pub fn is_response(s: &[u8]) -> bool
     ensures { result ≡ is_response s.now }
 {
-    let opening = opening_of(s);
-    match opening {
-        Opening::NoResponse => false,
-        Opening::Alone => true,
-        Opening::Longer(tag) => is_shape(shape_with(s, tag)),
+    match opening_of(s) {
+        None => false,
+        Some(Opening::Alone) => true,
+        Some(Opening::Longer(tag)) => shape_with(s, tag).is_some(),
     }
 }

@@ -1,24 +1,15 @@
 ghost use Rattle.std.specs.Prelude.{◌≡◌};
 ghost use Rattle.model.specs.Reader.{read_response};
-ghost use Rattle.response_reader.specs.Readings.{refusal_of, signed_bytes};
+ghost use Rattle.response_reader.specs.Readings.{lent, signed_bytes};
 
-use crate::shapes::{Shape, shape_of};
-use fields::refusals::NOT_WRITTEN;
+use crate::shapes::shape_of;
+use fields::refusals::Refusal;
 use tlv::heads::part_of;
 
-// The reader's first call: the signed structure as a part of the caller's own bytes, and beside it 0 or the refusal's number.
-pub fn signed_part<'a, 'b>(s: &'a [u8], refusal: &'b mut u32) -> &'a [u8]
-    ensures { (result.now ≡ signed_bytes (read_response s.now) s.now) × (refusal.new ≡ refusal_of (read_response s.now)) }
+// The reader's first call: the signed structure as a part of the caller's own bytes.
+pub fn signed_part(s: &[u8]) -> Result<&[u8], Refusal>
+    ensures { lent result ≡ signed_bytes (read_response s.now) s.now }
 {
-    let shape = shape_of(s);
-    match shape {
-        Shape::NoResponse => {
-            *refusal = NOT_WRITTEN;
-            &s[0..0]
-        }
-        Shape::Response(p) => {
-            *refusal = 0;
-            part_of(s, p)
-        }
-    }
+    let p = shape_of(s).ok_or(Refusal::NotWritten)?;
+    Ok(part_of(s, p))
 }

@@ -1,7 +1,9 @@
 -- The buffer: bytes with zeros behind them, and what is put there.
-use Rattle.std.proofs.Common.{◌≡◌, ℕ, zero, suc, ◌+◌, ◌-◌, ◌<◌, ◌≤◌, List, [], ◌∷◌, ◌++◌, length, get_or, take, drop, set, replicate, sym, refl, ap, ◌∙◌, ap₂, append_assoc, add-one, arith, drop-drop, take-suc-set, take_at, get_or-append-add, drop_at}
-use lib.ListN.{length-replicate, replicate-append-replicate}
-use Rattle.tlv.specs.Writing.{splice}
+use Rattle.std.proofs.Common.{◌≡◌, ℕ, zero, suc, ◌+◌, ◌-◌, ◌*◌, ◌<◌, ◌≤◌, List, [], ◌∷◌, ◌++◌, length, get_or, take, drop, set, replicate, sym, refl, ap, ◌∙◌, ap₂, append_assoc, append-nil, add-one, div-one, arith, take-suc-set, take_at, length-append, length-take-le, get_or-append-add, drop_at}
+use lib.ListN.{drop_of_length-le, length-replicate, replicate-append-replicate}
+use borrow.Rule.Slice.PartMut.{put_mid}
+use Rattle.std.specs.Int.{w32, w64, to_be_bytes}
+use Rattle.model.specs.Sha256.{be}
 use Rattle.tlv.specs.Firsts.{firsts}
 use Rattle.tlv.proofs.FirstLaws.{firsts-over}
 
@@ -62,7 +64,33 @@ in_second x y i h =
     let e : i ≡ length x + (i - length x) = omega arith in
     ap (λ (k : ℕ). get_or (x ++ y) k 0) e ∙ get_or-append-add x y (i - length x) 0
 
--- a run of bytes right behind f
-pub splice_behind : (f z s : List ℕ) (at : ℕ) → length f ≡ at → splice at s (f ++ z) ≡ f ++ (s ++ drop (length s) z)
-splice_behind f z s at e =
-    ap₂ (λ (x y : List ℕ). x ++ (s ++ y)) (take_at f z at e) (sym (drop-drop (length s) at (f ++ z)) ∙ ap (λ (l : List ℕ). drop (length s) l) (drop_at f z at e))
+-- bytes that are put right behind f, as many as stood there
+pub put_behind : (f z s : List ℕ) (at k : ℕ) → length f ≡ at → length z ≡ k → put_mid at k (f ++ z) s ≡ f ++ s
+put_behind f z s at k e l =
+    ap₂ (λ (x y : List ℕ). x ++ (s ++ y)) (take_at f z at e) (ap (λ (x : List ℕ). drop k x) (drop_at f z at e) ∙ drop_of_length-le z (omega arith))
+    ∙ ap (λ (x : List ℕ). f ++ x) (append-nil s)
+
+-- ---- words as bytes
+
+-- the first n words of h, each as four bytes
+unfoldable pub spelt : List ℕ → ℕ → List ℕ
+spelt h zero = []
+spelt h (suc n) = spelt h n ++ be 4 (get_or h n 0)
+
+-- the library's four bytes of a word are the definition's
+pub four_bytes : (x : ℕ) → to_be_bytes w32 x ≡ be 4 x
+unfolding be
+four_bytes x = rw div-one
+
+-- and of a number of eight bytes
+pub eight_bytes : (x : ℕ) → to_be_bytes w64 x ≡ be 8 x
+unfolding be
+eight_bytes x = rw div-one
+
+-- one word more
+pub spelt-next : (d h b : List ℕ) (i k : ℕ) → length d ≡ 32 → i < 8 → take (4 * i) d ≡ spelt h i → b ≡ to_be_bytes w32 (get_or h i 0)
+    → take (4 * (i + 1)) (put_mid (4 * i) k d b) ≡ spelt h (i + 1)
+unfolding spelt
+spelt-next d h b i k l u e f =
+    let n : length (take (4 * i) d ++ to_be_bytes w32 (get_or h i 0)) ≡ 4 * (i + 1) = rw (length-append, length-take-le (4 * i) d (omega arith)) (omega arith) in
+    rw (f, ← append_assoc, take_at _ _ _ n, e, four_bytes, add-one)

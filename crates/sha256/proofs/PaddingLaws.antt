@@ -1,11 +1,12 @@
 -- The last block or two: what the buffer holds is what is left with the padding.
-use Rattle.std.proofs.Common.{◌≡◌, ℕ, ◌+◌, ◌-◌, ◌*◌, ◌%◌, ◌^◌, ◌<◌, ◌≤◌, List, [], ◌∷◌, ◌++◌, length, set, replicate, sym, refl, ap, ◌∙◌, ap₂, append_assoc, append-nil, mul_comm, arith, length-append, length-set}
+use Rattle.std.proofs.Common.{◌≡◌, ℕ, ◌+◌, ◌-◌, ◌*◌, ◌%◌, ◌^◌, ◌<◌, ◌≤◌, List, [], ◌∷◌, ◌++◌, length, set, replicate, sym, refl, ap, ◌∙◌, ap₂, append_assoc, mul_comm, arith, length-append, length-set}
+use borrow.Rule.Slice.PartMut.{mid_of, put_mid, same_len_mid}
+use Rattle.std.specs.Int.{w64, to_be_bytes}
 use Rattle.model.specs.Sha256.{State, be, zero_bytes, padding, compress, finish}
 use Rattle.model.proofs.Sha256Laws.{one_block, two_blocks}
-use Rattle.tlv.specs.Writing.{splice, Wrote}
 use Rattle.tlv.specs.Firsts.{firsts}
 use Rattle.tlv.proofs.FirstLaws.{length-firsts}
-use Rattle.sha256.proofs.BufferLaws.{filled, filled_more, set_filled, splice_behind}
+use Rattle.sha256.proofs.BufferLaws.{filled, filled_more, set_filled, put_behind, eight_bytes}
 
 -- with the bit 1, and seven zeros
 abbrev marked : List ℕ → List ℕ
@@ -37,33 +38,34 @@ length_marked m = length-append m (128 ∷ [])
 short-length : (n : ℕ) (m : List ℕ) → length (firsts 0 56 (marked m) ++ bits n) ≡ 64
 short-length n m = rw (length-append, length-firsts 0 56 (marked m), length_bits n)
 
--- where the length goes in the buffer there is room for it
-pub room : (n t : ℕ) (m d b : List ℕ) → d ≡ firsts 0 64 m → b ≡ be 8 n → 56 + length b ≤ length (set d t 128)
-room n t m d b e f = rw (length-set, e, f, length-firsts 0 64 m, length-be n) (omega arith)
+-- the length is put over the last eight bytes, and the buffer is as long as before
+pub same-length : (m d b : List ℕ) (t : ℕ) → d ≡ firsts 0 64 m → length b ≡ length (mid_of 56 8 (set d t 128)) → length (put_mid 56 8 (set d t 128) b) ≡ 64
+same-length m d b t e l = same_len_mid 56 8 (set d t 128) b l ∙ length-set _ _ _ ∙ ap length e ∙ length-firsts 0 64 m
 
-module _ (n t : ℕ) (s r : State) (m d b : List ℕ) (at : length m ≡ t) (left : n % 64 ≡ t) (e : d ≡ firsts 0 64 m) (f : b ≡ be 8 (n * 8 % 2 ^ 64)) where
+module _ (n t : ℕ) (s r : State) (m d b : List ℕ) (at : length m ≡ t) (left : n % 64 ≡ t) (e : d ≡ firsts 0 64 m) (f : b ≡ to_be_bytes w64 (n * 8 % 2 ^ 64)) where
   -- there is room for the length
-  pub last-short : (z : List ℕ) (end : ℕ) → t < 56 → Wrote (set d t 128) 56 b (length b) z end → r ≡ compress s z → r ≡ finish n s m
+  pub last-short : (z : List ℕ) → t < 56 → z ≡ put_mid 56 8 (set d t 128) b → r ≡ compress s z → r ≡ finish n s m
   unfolding bits be
-  last-short z end h g c =
+  last-short z h g c =
       let l : length (marked m) ≤ 56 = rw length_marked (omega arith) in
       let p : firsts 0 64 (marked m) ≡ firsts 0 56 (marked m) ++ replicate 8 0 = filled_more 56 8 (marked m) l in
       let w : set d t 128 ≡ firsts 0 56 (marked m) ++ replicate 8 0 = ap (λ (x : List ℕ). set x t 128) e ∙ set_filled 64 m t 128 at (omega arith) ∙ p in
+      let v : b ≡ bits n = f ∙ eight_bytes _ in
       let q : z ≡ firsts 0 56 (marked m) ++ bits n =
-      g.bytes ∙ ap₂ (λ (x y : List ℕ). splice 56 y x) w f
-      ∙ splice_behind (firsts 0 56 (marked m)) (replicate 8 0) (bits n) 56 (length-firsts 0 56 (marked m))
-      ∙ ap (λ (x : List ℕ). firsts 0 56 (marked m) ++ x) (append-nil (bits n)) in
+      g ∙ ap₂ (λ (x y : List ℕ). put_mid 56 8 y x) v w
+      ∙ put_behind (firsts 0 56 (marked m)) (replicate 8 0) (bits n) 56 8 (length-firsts 0 56 (marked m)) refl in
       let k : zero_bytes n ≡ 56 - length (marked m) = rw length_marked (omega arith) in
       c ∙ ap (compress s) q ∙ sym (one_block n s m (firsts 0 56 (marked m) ++ bits n) (padded 56 n m l k) (short-length n m))
 
   -- the length goes into a block of its own
-  pub last_long : (h : State) (z : List ℕ) (end : ℕ) → 56 ≤ t → t < 64 → h ≡ compress s (set d t 128) → Wrote (replicate 64 0) 56 b (length b) z end → r ≡ compress h z
+  pub last_long : (h : State) (z : List ℕ) → 56 ≤ t → t < 64 → h ≡ compress s (set d t 128) → z ≡ put_mid 56 8 (replicate 64 0) b → r ≡ compress h z
       → r ≡ finish n s m
   unfolding bits be
-  last_long h z end l u p q c =
+  last_long h z l u p q c =
       let o : length (marked m) ≤ 64 = rw length_marked (omega arith) in
       let w : set d t 128 ≡ firsts 0 64 (marked m) = ap (λ (x : List ℕ). set x t 128) e ∙ set_filled 64 m t 128 at u in
-      let v : z ≡ replicate 56 0 ++ bits n = q.bytes ∙ ap (λ (y : List ℕ). splice 56 y (replicate 64 0)) f in
+      let i : b ≡ bits n = f ∙ eight_bytes _ in
+      let v : z ≡ replicate 56 0 ++ bits n = q ∙ ap (λ (y : List ℕ). put_mid 56 8 (replicate 64 0) y) i ∙ put_behind (replicate 56 0) (replicate 8 0) (bits n) 56 8 refl refl in
       let k : zero_bytes n ≡ 120 - length (marked m) = rw length_marked (omega arith) in
       let j : m ++ padding n ≡ firsts 0 64 (marked m) ++ (replicate 56 0 ++ bits n) =
       padded 120 n m (omega (arith, o)) k ∙ ap (λ (x : List ℕ). x ++ bits n) (filled_more 64 56 (marked m) o) ∙ append_assoc (firsts 0 64 (marked m)) (replicate 56 0) (bits n) in

@@ -22,7 +22,7 @@ pub fn initial() -> Words
 }
 
 // A constant for each step.
-const TABLE: [u32; 64] = [
+static TABLE: [u32; 64] = [
     0x428a2f98, 0x71374491, 0xb5c0fbcf, 0xe9b5dba5, 0x3956c25b, 0x59f111f1, 0x923f82a4, 0xab1c5ed5,
     0xd807aa98, 0x12835b01, 0x243185be, 0x550c7dc3, 0x72be5d74, 0x80deb1fe, 0x9bdc06a7, 0xc19bf174,
     0xe49b69c1, 0xefbe4786, 0x0fc19dc6, 0x240ca1cc, 0x2de92c6f, 0x4a7484aa, 0x5cb0a9dc, 0x76f988da,
@@ -33,18 +33,11 @@ const TABLE: [u32; 64] = [
     0x748f82ee, 0x78a5636f, 0x84c87814, 0x8cc70208, 0x90befffa, 0xa4506ceb, 0xbef9a3f7, 0xc67178f2,
 ];
 
-// The table as a value, which is lent to all that need it: a constant array that is indexed is built anew at each use.
-pub fn constants() -> [u32; 64]
-    ensures { result ≡ model.K }
+// The table. It is a `static`, which is lent: a `const` array that is indexed is built anew at each use.
+pub fn constants() -> &'static [u32; 64]
+    ensures { result.now ≡ model.K }
 {
-    TABLE
-}
-
-// A byte as a word.
-fn wide(x: u8) -> u32
-    ensures { (result ≡ x) × (result < 256) }
-{
-    x as u32
+    &TABLE
 }
 
 // The word at place i, its highest byte first.
@@ -52,7 +45,7 @@ fn word_at(s: &[u8], i: usize) -> u32
     requires { i + 4 ≤ length s.now }
     ensures { result ≡ model.word_at s.now i }
 {
-    wide(s[i]) * 16777216 + wide(s[i + 1]) * 65536 + wide(s[i + 2]) * 256 + wide(s[i + 3])
+    u32::from_be_bytes([s[i], s[i + 1], s[i + 2], s[i + 3]])
 }
 
 // The sixteen words of a block, with room for the rest of the schedule.
@@ -61,26 +54,22 @@ fn load(block: &[u8]) -> [u32; 64]
     ensures { take 16 result ≡ model.words_of 16 block.now }
 {
     let mut w = [0u32; 64];
-    let mut n: usize = 0;
-    while n < 16 {
+    for n in 0..16 {
         w[n] = word_at(block, 4 * n);
-        n += 1;
     }
     w
 }
 
 // Four words more of the schedule, each from those before it. After twelve turns it has all 64, and nothing is done.
-fn expand(w: &mut [u32], turn: usize)
-    requires { (turn < 16) × (length w.old ≡ 64) }
-    ensures w_len { length w.new ≡ 64 }
-    ensures by_index { (x : List ℕ) → length x ≡ 16 → Begun (4 * turn + 16) x w.old → Begun (4 * turn + 20) x w.new }
+fn expand(w: &mut [u32; 64], turn: usize)
+    requires { turn < 16 }
+    ensures { (x : List ℕ) → length x ≡ 16 → Begun (4 * turn + 16) x w.old → Begun (4 * turn + 20) x w.new }
 {
     if 12 <= turn {
         return;
     }
     let from = 4 * turn;
-    let mut n: usize = 0;
-    while n < 4 {
+    for n in 0..4 {
         w[from + n + 16] = add(
             add(
                 add(small1(w[from + n + 14]), w[from + n + 9]),
@@ -88,15 +77,15 @@ fn expand(w: &mut [u32], turn: usize)
             ),
             w[from + n],
         );
-        n += 1;
     }
 }
 
 // Four steps from the t-th: a turn of four is quicker than four turns.
-fn four(s: Words, w: &[u32; 64], k: &[u32; 64], t: usize) -> Words
-    requires { (t + 4 ≤ 64) × (k.now ≡ model.K) }
+fn four(s: Words, w: &[u32; 64], t: usize) -> Words
+    requires { t + 4 ≤ 64 }
     ensures { (z : model.State) → view s ≡ model.steps t w.now z → view result ≡ model.steps (t + 4) w.now z }
 {
+    let k = constants();
     let s1 = step_of(s, k[t], w[t]);
     let s2 = step_of(s1, k[t + 1], w[t + 1]);
     let s3 = step_of(s2, k[t + 2], w[t + 2]);
@@ -104,39 +93,33 @@ fn four(s: Words, w: &[u32; 64], k: &[u32; 64], t: usize) -> Words
 }
 
 // The rest of the schedule and the 64 steps, four of both in a turn: that is quicker than the one after the other.
-fn rounds(start: Words, words: [u32; 64], k: &[u32; 64]) -> Words
-    requires { k.now ≡ model.K }
+fn rounds(start: Words, words: [u32; 64]) -> Words
     ensures { view result ≡ model.steps 64 (model.extend 48 (take 16 words)) (view start) }
 {
     let mut w = words;
     let mut s = start;
-    let mut turn: usize = 0;
-    while turn < 16 {
+    for turn in 0..16 {
         expand(&mut w, turn);
-        s = four(s, &w, k, 4 * turn);
-        turn += 1;
+        s = four(s, &w, 4 * turn);
     }
     s
 }
 
 // The hash value after one block more.
-pub fn compress(s: Words, block: &[u8], k: &[u32; 64]) -> Words
-    requires { (length block.now ≡ 64) × (k.now ≡ model.K) }
+pub fn compress(s: Words, block: &[u8]) -> Words
+    requires { length block.now ≡ 64 }
     ensures { view result ≡ model.compress (view s) block.now }
 {
-    sum(rounds(s, load(block), k), s)
+    sum(rounds(s, load(block)), s)
 }
 
 // All whole blocks of m.
-pub fn blocks(start: Words, m: &[u8], k: &[u32; 64]) -> Words
-    requires { k.now ≡ model.K }
+pub fn blocks(start: Words, m: &[u8]) -> Words
     ensures { view result ≡ model.blocks (length m.now / 64) (view start) m.now }
 {
     let mut s = start;
-    let mut at: usize = 0;
-    while 64 <= m.len() - at {
-        s = compress(s, &m[at..at + 64], k);
-        at += 64;
+    for block in m.chunks_exact(64) {
+        s = compress(s, block);
     }
     s
 }

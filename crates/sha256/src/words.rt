@@ -1,9 +1,7 @@
 // Words of 32 bits: the functions of FIPS 180-4, 4.1.2, and one step of the 64.
-ghost use Rattle.std.specs.Prelude.{◌≡◌, ◌<◌};
+ghost use Rattle.std.specs.Prelude.{◌≡◌};
 ghost use Rattle.model.specs.Sha256 as model;
 ghost use Rattle.sha256.specs.Views.{view};
-
-use std::num::wrapping_add_u32;
 
 // The eight words of a hash value, and the eight working variables.
 #[derive(Clone, Copy)]
@@ -18,19 +16,11 @@ pub struct Words {
     pub h: u32,
 }
 
-// A word rotated to the right by n.
-fn rotr(x: u32, n: u32) -> u32
-    requires { (0 < n) × (n < 32) }
-    ensures { result ≡ model.rotr n x }
-{
-    (x >> n) | (x << (32 - n))
-}
-
 // The sum modulo 2^32.
 pub fn add(x: u32, y: u32) -> u32
     ensures { result ≡ model.◌⊞◌ x y }
 {
-    wrapping_add_u32(x, y)
+    x.wrapping_add(y)
 }
 
 // The bits of y where x has a one, and of z where it has none.
@@ -51,25 +41,25 @@ fn maj(x: u32, y: u32, z: u32) -> u32
 fn big0(x: u32) -> u32
     ensures { result ≡ model.Σ0 x }
 {
-    rotr(x, 2) ^ rotr(x, 13) ^ rotr(x, 22)
+    x.rotate_right(2) ^ x.rotate_right(13) ^ x.rotate_right(22)
 }
 
 fn big1(x: u32) -> u32
     ensures { result ≡ model.Σ1 x }
 {
-    rotr(x, 6) ^ rotr(x, 11) ^ rotr(x, 25)
+    x.rotate_right(6) ^ x.rotate_right(11) ^ x.rotate_right(25)
 }
 
 pub fn small0(x: u32) -> u32
     ensures { result ≡ model.σ0 x }
 {
-    rotr(x, 7) ^ rotr(x, 18) ^ (x >> 3)
+    x.rotate_right(7) ^ x.rotate_right(18) ^ (x >> 3)
 }
 
 pub fn small1(x: u32) -> u32
     ensures { result ≡ model.σ1 x }
 {
-    rotr(x, 17) ^ rotr(x, 19) ^ (x >> 10)
+    x.rotate_right(17) ^ x.rotate_right(19) ^ (x >> 10)
 }
 
 // The two sums of a step.

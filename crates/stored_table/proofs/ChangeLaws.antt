@@ -50,16 +50,6 @@ unfolding apply
 removal_selects m [] t = select-same (λ r. not (has_mixed m r)) (stays m []) (λ r. rw (and-true (has_mixed m r))) t
 removal_selects m (x ∷ key) t = refl
 
--- of the mixed token's records all go if the KeyID is empty, else the one that has it
-pub goes-any : (m key : List ℕ) (r : model.Record) → eq_bytes r.mixed m ≡ true → length key ≡ 0 → goes m key r ≡ true
-goes-any m [] r own e = rw own
-goes-any m (x ∷ key) r own e = absurd (omega arith)
-
-pub goes_one : (m key : List ℕ) (r : model.Record) → eq_bytes r.mixed m ≡ true → (length key ≡ 0 → ⊥)
-    → goes m key r ≡ eq_bytes r.key_id key
-goes_one m [] r own h = absurd (h refl)
-goes_one m (x ∷ key) r own h = rw own
-
 -- ---- a count set
 
 -- no later record has the first one's KeyID

@@ -7,7 +7,7 @@ use Prim.Native.Nat.{ℕ, suc, ◌+◌, ◌-◌, ◌≤◌, ◌<◌}
 use native.Mathlib.Numerals.{add-one}
 use native.Mathlib.Omega.{arith}
 use lib.ListN.{length, get_or, take, drop, set, length-append, length-drop, take-append-drop, drop_of_length-le}
-use lib.Seq.{length-take-le, drop-cons, take-add, take_all, take_at, drop_at, take-append-le, drop-append-le, set_split, split_at}
+use lib.Seq.{length-take-le, drop-cons, drop-drop, take-suc, take-add, take_all, take_at, drop_at, take-append-le, drop-append-le, set_split, split_at}
 use Rattle.model.specs.Lists.{select}
 use Rattle.model.specs.Tlv.{le, tlv, bytes, header, pair_tag}
 use Rattle.model.specs.Records as model
@@ -155,8 +155,8 @@ module _ {table places : List ℕ} (x : Indexed table places) where
     stored-starts = omega (arith, up-to)
 
   -- none ends past the table
-  pub stored-ends : (j : ℕ) → length (encode (take j (table_in table))) ≤ length table
-  stored-ends j =
+  pub stored_ends : (j : ℕ) → length (encode (take j (table_in table))) ≤ length table
+  stored_ends j =
       let t = table_in table in
       let e : length table ≡ length (encode (take j t)) + length (encode (drop j t)) =
       ap length (sym x.whole ∙ ap encode (sym (take-append-drop j t)) ∙ encode-append (take j t) (drop j t))
@@ -174,26 +174,6 @@ module _ (m key : List ℕ) where
   staying_most (r ∷ t) =
       let ih = staying_most t in
       split (goes m key r) (λ e. rw e (simp length-append (omega (arith, ih)))) (λ e. rw e (simp length-append (omega (arith, ih))))
-
-  -- those that stay before the first that goes are all that stays up to it
-  staying_run : (t : model.Table) → staying_of m key (take (suc (stay_first m key t)) t) ≡ encode (take (stay_first m key t) t)
-  unfolding staying_of stay_first
-  staying_run [] = refl
-  staying_run (r ∷ rs) =
-      let k = stay_first m key rs in
-      split (goes m key r) (λ e. rw e)
-      (λ e. rw e
-      (encode-append (r ∷ []) (select (stays m key) (take (suc k) rs)) ∙ ap (λ u. encode (r ∷ []) ++ u) (staying_run rs) ∙ sym (encode-append (r ∷ []) (take k rs))))
-
-  stay_most : (t : model.Table) → stay_first m key t ≤ length t
-  unfolding stay_first
-  stay_most [] = omega arith
-  stay_most (r ∷ rs) = split (goes m key r) (λ e. rw e (omega arith)) (λ e. rw e (omega (arith, stay_most rs)))
-
-  -- the next that goes is one of them, or none
-  pub next-within : {table places : List ℕ} → Indexed table places → (i : ℕ) → i ≤ length places
-      → i + stay_first m key (drop i (table_in table)) ≤ length places
-  next-within {table} x i h = omega (arith, stay_most (drop i (table_in table)), length-drop i (table_in table), length-places x)
 
   -- of the records from j on the first goes, or stays
   module _ {table places : List ℕ} (x : Indexed table places) (j : ℕ) (h : j < length places) {g : Bool}
@@ -214,32 +194,85 @@ module _ (m key : List ℕ) where
   unfolding stay_first
   none_here {table} x j h = rw (drop_of_length-le (table_in table) {i = j} (omega (arith, length-places x)))
 
-  -- nothing written yet
-  pub left_none : (d : List ℕ) (t : model.Table) → Wrote d 0 (staying_of m key (take 0 t)) 0 d 0
+-- ---- a walk over the records of a stored table, in which those that stay are written run by run
+
+-- what stays of the first i records is written, but for the run that stands from a place on
+pub record Removing (m key table d : List ℕ) (i from : ℕ) (d₁ : List ℕ) (e : ℕ) : Type 0 where
+  pub written : List ℕ
+  pub wrote : Wrote d 0 written e d₁ e
+  pub within : from ≤ length (encode (take i (table_in table)))
+  pub stay : staying_of m key (take i (table_in table)) ≡ written ++ take (length (encode (take i (table_in table))) - from) (drop from table)
+
+module _ (m key : List ℕ) {table places : List ℕ} (x : Indexed table places) where
+  pub removing_none : (d : List ℕ) → Removing m key table d 0 0 d 0
   unfolding staying_of encode
-  left_none d t = wrote_none d 0 (omega arith)
+  removing_none d = record { written = []; wrote = wrote_none d 0 (omega arith); within = omega arith; stay = refl }
 
-  module _ {table places : List ℕ} (x : Indexed table places) (i : ℕ) {d d₁ : List ℕ} {e₁ : ℕ}
-      (p : Wrote d 0 (staying_of m key (take i (table_in table))) e₁ d₁ e₁) where
-    -- what is written is no longer than what is gone through, and there is room for the next
-    pub left-room : {j n : ℕ} → i ≤ j → length table ≤ n → e₁ + length (encode (take (j - i) (drop i (table_in table)))) ≤ n
-    left-room {j} b l = omega (arith, p.size, staying_most (take i (table_in table)), up-to x i j b, stored-ends x j)
-
-    -- those that stay before the next that goes
-    pub left-more : {j n : ℕ} {d₂ : List ℕ} {e₂ : ℕ} → j ≡ i + stay_first m key (drop i (table_in table))
-        → Wrote d₁ e₁ (encode (take (j - i) (drop i (table_in table)))) n d₂ e₂
-        → Wrote d 0 (staying_of m key (take (j + 1) (table_in table))) e₂ d₂ e₂
-    left-more {j} f q =
+  module _ {d d₁ : List ℕ} {i from e : ℕ} (p : Removing m key table d i from d₁ e) where
+    -- the run and what is written take no more bytes than the table
+    pub removing-room : {n : ℕ} → n ≡ length (encode (take i (table_in table))) → e + length (take (n - from) (drop from table)) ≤ length table
+    removing-room {n} h =
         let t = table_in table in
-        let k = stay_first m key (drop i t) in
-        let a : j + 1 ≡ i + suc k = omega arith in
-        let b : j - i ≡ k = omega arith in
-        let w : staying_of m key (take i t) ++ encode (take (j - i) (drop i t)) ≡ staying_of m key (take (j + 1) t) =
-        rw (a, b, take-add i (suc k) t, staying_append (take i t) (take (suc k) (drop i t)), staying_run (drop i t)) in
-        from_front (same w refl (then p q))
+        let run : List ℕ = take (length (encode (take i t)) - from) (drop from table) in
+        rw h (omega (arith, p.wrote.size, ap length p.stay, length-append p.written run, staying_most m key (take i t), stored_ends x i))
 
-  -- all records
-  pub left-all : {d d₁ : List ℕ} {e : ℕ} (t : model.Table) (i : ℕ) → length t ≤ i → Wrote d 0 (staying_of m key (take i t)) e d₁ e
-      → Wrote d 0 (encode (apply m (removal key) t)) e d₁ e
-  unfolding staying_of
-  left-all t i h p = rw (removal_selects m key t) (rw (take_all i t h) at p)
+    -- the run was written
+    removing-put : {n : ℕ} {d₂ : List ℕ} {e₂ : ℕ} → Wrote d₁ e (take (length (encode (take i (table_in table))) - from) (drop from table)) n d₂ e₂
+        → Wrote d 0 (staying_of m key (take i (table_in table))) e₂ d₂ e₂
+    removing-put q = from_front (same (sym p.stay) refl (then p.wrote q))
+
+    module _ (h : i < length places) {g : Bool} (f : g ≡ goes m key (record_at table (get_or places i 0))) where
+      abbrev r : model.Record
+      r = record_at table (get_or places i 0)
+
+      one_more : staying_of m key (take (i + 1) (table_in table)) ≡ staying_of m key (take i (table_in table)) ++ staying_of m key (r ∷ [])
+      one_more =
+          let t = table_in table in
+          let o : get_or t i no_record ≡ r = sym (record-at x i h).is in
+          rw (add-one, take-suc t i no_record (numbered x i h), o, staying_append m key (take i t) (r ∷ []))
+
+      -- record i stays, and is one more of the run
+      pub removing-stays : g ≡ false → Removing m key table d (i + 1) from d₁ e
+      unfolding staying_of
+      removing-stays k =
+          let t = table_in table in
+          let b : ℕ = length (encode (take i t)) in
+          let c : ℕ = length (encode (take (i + 1) t)) in
+          let l : b ≤ c = stored-starts x i (i + 1) (omega arith) in
+          let one : i + 1 - i ≡ 1 = omega arith in
+          let o : get_or t i no_record ≡ r = sym (record-at x i h).is in
+          let its : take (c - b) (drop b table) ≡ staying_of m key (r ∷ []) =
+          stored_is x i (i + 1) (omega arith) ∙ rw (one, drop-cons t i no_record (numbered x i h), o, ← f, k) in
+          let sum : c - from ≡ (b - from) + (c - b) = omega (arith, p.within) in
+          let at : from + (b - from) ≡ b = omega (arith, p.within) in
+          let run : take (c - from) (drop from table) ≡ take (b - from) (drop from table) ++ take (c - b) (drop b table) =
+          rw (sum, take-add (b - from) (c - b) (drop from table), drop-drop (b - from) from table, at) in
+          record {
+            written = p.written;
+            wrote = p.wrote;
+            within = omega (arith, p.within);
+            stay = one_more ∙ rw (p.stay, ← its, run) (append_assoc p.written (take (b - from) (drop from table)) (take (c - b) (drop b table)));
+          }
+
+      -- record i goes, and the run before it is written
+      pub removing-goes : g ≡ true → {n from₂ : ℕ} {d₂ : List ℕ} {e₂ : ℕ} → Wrote d₁ e (take (get_or places i 0 - from) (drop from table)) n d₂ e₂
+          → from₂ ≡ length (encode (take (i + 1) (table_in table))) → Removing m key table d (i + 1) from₂ d₂ e₂
+      unfolding staying_of encode
+      removing-goes k {from₂ = from₂} q s =
+          let t = table_in table in
+          let none : staying_of m key (r ∷ []) ≡ [] = rw (← f, k) in
+          let no : length (encode (take (i + 1) t)) - from₂ ≡ 0 = omega (arith, s) in
+          record {
+            written = staying_of m key (take i t);
+            wrote = removing-put (rw (place_is x i h) at q);
+            within = omega (arith, s);
+            stay = one_more ∙ rw (none, no);
+          }
+
+    pub removing-all : length places ≤ i → {n : ℕ} {d₂ : List ℕ} {e₂ : ℕ} → Wrote d₁ e (take (length table - from) (drop from table)) n d₂ e₂
+        → Wrote d 0 (encode (apply m (removal key) (table_in table))) e₂ d₂ e₂
+    unfolding staying_of
+    removing-all h q =
+        let t = table_in table in
+        let w = removing-put (rw (end_is x i h) at q) in
+        rw (removal_selects m key t) (rw (take_all i t (omega (arith, length-places x))) at w)

@@ -15,12 +15,13 @@ use lib.Dec.{eqb}
 use mir.Syntax.{w8}
 use mir.Val.{Fits}
 use borrow.Author.Tests.{lt-leb}
+use Rattle.std.specs.Bool.{then_some}
 use Rattle.model.specs.Lists.{all}
 use Rattle.model.specs.Tlv.{Bytes, Tlv, tlv, bytes, tlvs, pair_tag}
 use Rattle.model.specs.Layouts.{matches, reads}
 use Rattle.model.specs.Records as model
 use Rattle.model.specs.Records.{record_ok, max_records, table_ok, record_fields, stored_as, encode, decode}
-use Rattle.model.proofs.Basics.{split, impossible, both, all_append}
+use Rattle.model.proofs.Basics.{split, both, all_append}
 use Rattle.model.proofs.Tlvs.{bytes-append, length-bytes, bytes-tlvs}
 use Rattle.model.proofs.StoredForm.{encode-stored, stored_rules}
 use Rattle.tlv.specs.Heads.{head_at, between}
@@ -64,29 +65,24 @@ module _ {s places : List ℕ} {n : ℕ} (l : Loaded s places n) where
   unfolding table_in
   table-in d = rw d
 
-  index_is : (b : Bool) → decode s ≡ cond b (some l.table) none → table_ok l.table ≡ b
-      → IndexIs s places (record { ok = b; len = n })
+  index_is : (b : Bool) → decode s ≡ cond b (some l.table) none → table_ok l.table ≡ b → IndexIs s places (then_some b n)
   index_is true d o =
       let i = table-in d in
       record {
         within = rw l.room l.few;
         view = rw i d;
-        indexed = λ x. record { whole = rw i l.whole; places-are = rw i l.places-are; ok = rw i o };
+        indexed = record { whole = rw i l.whole; places-are = rw i l.places-are; ok = rw i o };
       }
-  index_is false d o = record { within = rw l.room l.few; view = d; indexed = λ x. impossible cc }
+  index_is false d o = d
 
   -- what the places and the test of these rows give
-  pub loaded_are : (b : Bool) → b ≡ few_distinct s (take n places) → IndexIs s places (record { ok = b; len = n })
+  pub loaded_are : (b : Bool) → b ≡ few_distinct s (take n places) → IndexIs s places (then_some b n)
   loaded_are b e =
       let keys = located_keys s (take n places) l.table all_located in
       let mixed = located_mixed s (take n places) l.table all_located in
       let k : length l.table ≤ max_records = omega (arith, l.few, l.size) in
       let o : table_ok l.table ≡ b = few_decides l.table k l.rules ∙ sym (rw (keys, mixed) at e) in
       index_is b (l.view ∙ rw o) o
-
--- where nothing decodes no index is given
-pub none_are : {s : List ℕ} (places : List ℕ) → decode s ≡ none → IndexIs s places (record { ok = false; len = 0 })
-none_are places d = record { within = omega arith; view = d; indexed = λ x. impossible cc }
 
 -- ---- a table read up to a place
 
@@ -132,7 +128,8 @@ pub record Loading (s places : List ℕ) (n place : ℕ) : Type 0 where
   pub run : List Tlv
   pub count : length run ≡ n
   pub passed : length (bytes run) ≡ place
-  pub places-are : length places ≡ 32 → take n places ≡ tlv_starts 0 run
+  pub room : length places ≡ 32
+  pub places-are : take n places ≡ tlv_starts 0 run
   pub match : all is_stored run ≡ true
   pub rest : tlvs s ≡ ahead run (tlvs (drop place s))
 
@@ -140,34 +137,35 @@ ahead_none : (o : Option (List Tlv)) → o ≡ ahead [] o
 ahead_none none = refl
 ahead_none (some us) = refl
 
-pub loading : (s places : List ℕ) → Loading s places 0 0
+pub loading : (s places : List ℕ) → length places ≡ 32 → Loading s places 0 0
 unfolding bytes
-loading s places =
+loading s places e =
     record {
       few = omega arith;
       within = omega arith;
       run = [];
       count = refl;
       passed = refl;
-      places-are = λ e. refl;
+      room = e;
+      places-are = refl;
       match = refl;
       rest = ahead_none (tlvs s);
     }
 
 module _ {s places : List ℕ} {n place : ℕ} (p : Loading s places n place) where
   -- of a slice of bytes
-  pub load-end : length places ≡ 32 → ((i : ℕ) → Fits w8 (get_or s i 0)) → length s ≤ place → Loaded s places n
+  pub load-end : ((i : ℕ) → Fits w8 (get_or s i 0)) → length s ≤ place → Loaded s places n
   unfolding decode bind
-  load-end e f h =
+  load-end f h =
       let r : tlvs s ≡ some p.run = p.rest ∙ rw (run_end s place (head_end s place h)) (ap some (append-nil p.run)) in
       let q = bytes-tlvs s p.run (slice_bytes s f) r in
       record {
         few = p.few;
-        room = e;
+        room = p.room;
         table = map stored_as p.run;
         size = rw length-map p.count;
         whole = encode-stored p.run q.held p.match ∙ q.written;
-        places-are = p.places-are e ∙ run-starts 0 p.run q.held p.match;
+        places-are = p.places-are ∙ run-starts 0 p.run q.held p.match;
         rules = stored_rules p.run q.held p.match;
         view = rw (r, p.match);
       }
@@ -222,8 +220,8 @@ module _ {s places : List ℕ} {n place : ℕ} (p : Loading s places n place) wh
             run = more c;
             count = rw length-append (omega (arith, p.count));
             passed = rw (bytes-append p.run (c ∷ []), length-append) (omega (arith, p.passed, length-bytes c [], i));
-            places-are = λ x. let size : length places ≡ 32 = rw length-set at x in
-                rw (add-one, take-suc-set places n place (rw size few), p.places-are size, starts_more, p.passed, zero-add);
+            room = rw length-set p.room;
+            places-are = rw (add-one, take-suc-set places n place (rw p.room few), p.places-are, starts_more, p.passed, zero-add);
             match = all_append is_stored p.run (c ∷ []) p.match (both (stored_is pair_tag v ∙ g.1) refl);
             rest = rest_more i;
           }

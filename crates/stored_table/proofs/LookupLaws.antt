@@ -2,15 +2,16 @@
 -- token has a KeyID.
 -- Assumes nothing.
 use mathlib.Core.Path.{◌≡◌, refl, sym, ap, ◌∙◌}
-use mathlib.Core.Bool.{Bool, true, false, ◌&&◌, ◌||◌}
+use mathlib.Core.Bool.{Bool, true, false, ◌||◌}
 use mathlib.Core.List.{List, [], ◌∷◌, ◌++◌, map, append_assoc, append-nil}
 use Prim.Native.Nat.{ℕ, zero, suc, ◌+◌, ◌≤◌, ◌<◌}
-use native.Mathlib.Nat.{add-zero, pos_of_ne-zero}
+use native.Mathlib.Nat.{add-zero}
 use native.Mathlib.Numerals.{add-one}
 use native.Mathlib.Omega.{arith}
 use lib.ListN.{length, get_or, take, drop, set, length-append, length-map, length-set, drop_of_length-le}
 use lib.Seq.{drop-cons, drop-drop, length-take-le, get_or-drop, take-suc-set}
-use lib.Dec.{ltb}
+use lib.Dec.{ltb, eqb, eqb-suc-zero}
+use Rattle.std.specs.List.{list_any}
 use borrow.Author.Tests.{lt-ltb, le-ltb, ltb-true, ltb-false}
 use Rattle.model.specs.Lists.{cons_if, select, empty, eq_bytes, among}
 use Rattle.model.specs.Records as model
@@ -19,36 +20,24 @@ use Rattle.model.specs.Commands.{chosen}
 use Rattle.model.proofs.Basics.{split, eq_bytes_sym, select_both, length-select}
 use Rattle.model.proofs.Rules.{tests}
 use Rattle.tlv.specs.Rows.{row, rows}
-use Rattle.tlv.proofs.RowLaws.{length-rows, rows_end, rows_at}
-use Rattle.stored_table.specs.Stored.{no_record, key_id_at, mixed_at, record_at, table_in, Indexed}
+use Rattle.stored_table.specs.Stored.{no_record, record_at, table_in, Indexed}
 use Rattle.stored_table.specs.Changes.{stay_first}
 use Rattle.stored_table.specs.Chosen.{is_chosen, positions, ChosenAre, ChosenOf, records_at}
 use Rattle.stored_table.proofs.IndexLaws.{record-at, length-places}
 
--- ---- a walk over the handles given
+-- ---- the handles given
 
--- among handles, of which there is one
-given-one : (key : List ℕ) (hs : List (List ℕ)) → 0 < length hs → (empty hs || among key hs) ≡ among key hs
-given-one key [] h = absurd (omega arith)
-given-one key (x ∷ hs) h = refl
+any-row : (key s : List ℕ) (handles : List ℕ) → among key (rows 0 handles s) ≡ list_any (λ h. eq_bytes key (row h s)) handles
+unfolding rows
+any-row key s [] = refl
+any-row key s (h ∷ hs) = rw (add-zero, eq_bytes_sym (row h s) key, any-row key s hs)
 
-module _ (handles s key : List ℕ) where
-  abbrev given : List (List ℕ)
-  given = rows 0 handles s
-
-  pub given_none : length handles ≡ 0 → (empty (rows 0 handles s) || among key (rows 0 handles s)) ≡ true
-  given_none e = let n : given ≡ [] = rows_end 0 handles s 0 (omega arith) in rw n
-
-  pub given_some : (length handles ≡ 0 → ⊥) → (empty (rows 0 handles s) || among key (rows 0 handles s)) ≡ among key (rows 0 handles s)
-  given_some h = given-one key given (pos_of_ne-zero (λ e. h (sym (length-rows 0 handles s) ∙ e)))
-
-  pub given-end : (j : ℕ) → length handles ≤ j → among key (drop j (rows 0 handles s)) ≡ false
-  given-end j h = rw (rows_end 0 handles s j h)
-
-  -- at handle j, where b is what its test gave
-  pub given_at : (j : ℕ) → j < length handles → {b : Bool} → b ≡ eq_bytes key (row (get_or handles j 0) s)
-      → among key (drop j (rows 0 handles s)) ≡ (b || among key (drop (j + 1) (rows 0 handles s)))
-  given_at j h e = rw (rows_at 0 handles s j h, add-zero, eq_bytes_sym (row (get_or handles j 0) s) key, ← e)
+-- no handle is given, or the row of one is the key
+pub given_any : (key s : List ℕ) (handles : List ℕ)
+    → (empty (rows 0 handles s) || among key (rows 0 handles s)) ≡ (eqb (length handles) 0 || list_any (λ h. eq_bytes key (row h s)) handles)
+unfolding rows
+given_any key s [] = refl
+given_any key s (h ∷ hs) = rw (eqb-suc-zero (length hs), any-row key s (h ∷ hs))
 
 -- ---- the numbers of the elements that pass a test
 
@@ -136,24 +125,18 @@ module _ (m : List ℕ) (hs : List (List ℕ)) {table places : List ℕ} (x : In
       let none : drop i t ≡ [] = drop_of_length-le t {i = i} (omega (arith, length-places x)) in
       record { within = rw c.size c.few; are = sym (c.are ∙ rw none (append-nil (take len records))) }
 
-  -- at record i, where a and g are what the tests of its mixed token and of its KeyID gave
-  module _ (h : i < length places) (a g : Bool) (e : a ≡ eq_bytes (row (get_or places i 0 + mixed_at) table) m)
-      (f : g ≡ (empty hs || among (row (get_or places i 0 + key_id_at) table) hs)) where
-    next : from i ≡ cons_if (a && g) i (from (i + 1))
-    unfolding positions record_at
-    next =
-        let r = get_or t i no_record in
-        let owner : row (get_or places i 0 + mixed_at) table ≡ r.mixed = ap (λ (r : model.Record). r.mixed) (record-at x i h).is in
-        let key : row (get_or places i 0 + key_id_at) table ≡ r.key_id = ap (λ (r : model.Record). r.key_id) (record-at x i h).is in
-        rw (drop-cons t i no_record (omega (arith, length-places x)), add-one, e, f, owner, key)
+  -- at record i, where g is what its test gave
+  module _ (h : i < length places) (g : Bool) (e : g ≡ is_chosen m hs (record_at table (get_or places i 0))) where
+    so_far : from 0 ≡ take len records ++ cons_if g i (from (i + 1))
+    unfolding positions
+    so_far =
+        let r : record_at table (get_or places i 0) ≡ get_or t i no_record = (record-at x i h).is in
+        c.are ∙ rw (drop-cons t i no_record (omega (arith, length-places x)), add-one, e, r)
 
-    so_far : from 0 ≡ take len records ++ cons_if (a && g) i (from (i + 1))
-    so_far = c.are ∙ rw next
-
-    pub chosen-not : (a && g) ≡ false → Choosing m hs (table_in table) records len (i + 1)
+    pub chosen-not : g ≡ false → Choosing m hs (table_in table) records len (i + 1)
     chosen-not k = record { few = c.few; size = c.size; are = so_far ∙ rw k }
 
-    module _ (k : (a && g) ≡ true) where
+    module _ (k : g ≡ true) where
       one_more : from 0 ≡ take len records ++ (i ∷ from (i + 1))
       one_more = so_far ∙ rw k
 

@@ -2,11 +2,11 @@
 -- Assumes nothing.
 use mathlib.Core.Path.{◌≡◌, refl, sym, ap, ◌∙◌}
 use mathlib.Core.Bool.{Bool, true, false, not, cond, ◌&&◌}
-use mathlib.Core.List.{List, [], ◌∷◌, ◌++◌, append-nil}
-use Prim.Native.Nat.{ℕ, zero, suc, ◌+◌, ◌-◌, ◌≤◌, ◌<◌}
+use mathlib.Core.List.{List, [], ◌∷◌, ◌++◌, append_assoc, append-nil}
+use Prim.Native.Nat.{ℕ, suc, ◌+◌, ◌<◌}
 use native.Mathlib.Omega.{arith}
-use lib.ListN.{length, get_or, take}
-use lib.Seq.{take-suc}
+use lib.ListN.{length, get_or, take, length-append}
+use lib.Seq.{take-suc, take_all, get_or-append_seam}
 use lib.Dec.{eqb}
 use Rattle.model.specs.Lists.{all, any, cons_if, eq_bytes, among, distinct}
 use Rattle.model.specs.Records as model
@@ -18,9 +18,9 @@ use Rattle.model.proofs.Rules.{tests}
 use Rattle.model.proofs.Edges.{other, others}
 use Rattle.model.proofs.WithdrawalLaws.{signed, signed-at, last-past}
 use Rattle.tlv.specs.Rows.{row}
-use Rattle.stored_table.specs.Stored.{no_record, mixed_at, record_at, table_in, Indexed}
+use Rattle.stored_table.specs.Stored.{no_record, mixed_at, record_at, Stands, table_in, Indexed}
 use Rattle.stored_table.specs.Newest.{withdrawable}
-use Rattle.stored_table.proofs.IndexLaws.{record-at, length-places}
+use Rattle.stored_table.proofs.IndexLaws.{RecordIs, record-at, length-places}
 
 -- ---- the newest decides
 
@@ -45,40 +45,70 @@ newest_decides k t r d =
     rw (l, among_at k t r e, signed-at k t r [] o, e) (split (eqb r.count 0) (λ f. rw f) (λ f. rw f)))
     (λ e. rw (l, e) (last-fails (not (among k (key_ids (t ++ (r ∷ []))))) (any (signed k) (t ++ (r ∷ [])))))
 
--- ---- a walk over the records of a stored table, from the last one down
+-- ---- a walk over the places of a stored table, from the last one down
 
-pub none_newest : (m k : List ℕ) (t : model.Table) (n : ℕ) → n ≤ 0 → own m (take n t) ≡ own m t → false ≡ withdrawable k (own m t)
+-- these places are the first of all, and no record behind them is the mixed token's: its records are those that stand there
+pub record NoneBehind (m table places left : List ℕ) : Type 0 where
+  pub behind : List ℕ
+  pub are : left ++ behind ≡ places
+  pub before : own m (take (length left) (table_in table)) ≡ own m (table_in table)
+
+module _ (m : List ℕ) {table places : List ℕ} (x : Indexed table places) where
+  pub none_behind : {left : List ℕ} → left ≡ places → NoneBehind m table places left
+  none_behind e =
+      rw e
+      (record {
+        behind = [];
+        are = append-nil places;
+        before = ap (own m) (take_all (length places) (table_in table) (omega (arith, length-places x)));
+      })
+
+  module _ {left : List ℕ} (w : NoneBehind m table places left) (rest : List ℕ) (p : ℕ) (e : left ≡ rest ++ (p ∷ [])) where
+    last_are : rest ++ (p ∷ w.behind) ≡ places
+    last_are = sym (append_assoc rest (p ∷ []) w.behind) ∙ ap (λ (l : List ℕ). l ++ w.behind) (sym e) ∙ w.are
+
+    last_within : length rest < length places
+    last_within = omega (arith, ap length last_are, length-append rest (p ∷ w.behind))
+
+    -- the record at the last of these places
+    last-is : RecordIs table p (get_or (table_in table) (length rest) no_record)
+    last-is =
+        let i : get_or places (length rest) 0 ≡ p = ap (λ (l : List ℕ). get_or l (length rest) 0) (sym last_are) ∙ get_or-append_seam rest p w.behind 0 in
+        rw i at (record-at x (length rest) last_within)
+
+    pub last-stands : Stands table p
+    last-stands = last-is.stands
+
+    module _ {b : Bool} (f : b ≡ eq_bytes (row (p + mixed_at) table) m) where
+      -- those that stand at these places, where b says whether the last is one
+      by_last : own m (table_in table) ≡ own m (take (length rest) (table_in table)) ++ cons_if b (record_at table p) []
+      unfolding own record_at
+      by_last =
+          let t = table_in table in
+          let n : length left ≡ suc (length rest) = omega (arith, ap length e, length-append rest (p ∷ [])) in
+          let i : get_or t (length rest) no_record ≡ record_at table p = sym last-is.is in
+          let k : length rest < length t = omega (arith, last_within, length-places x) in
+          sym w.before ∙ rw (n, take-suc t (length rest) no_record k, i, select-append (has_mixed m) (take (length rest) t) (record_at table p ∷ []), ← f)
+
+      pub not-its-own : b ≡ false → NoneBehind m table places rest
+      not-its-own g =
+          record {
+            behind = p ∷ w.behind;
+            are = last_are;
+            before = sym (by_last ∙ rw g (append-nil (own m (take (length rest) (table_in table)))));
+          }
+
+      pub is_newest : (k : List ℕ) → b ≡ true → {a : Bool} → a ≡ (eq_bytes (record_at table p).key_id k && eqb (record_at table p).count 0)
+          → a ≡ withdrawable k (own m (table_in table))
+      unfolding own
+      is_newest k g a =
+          let t = table_in table in
+          let o : own m t ≡ own m (take (length rest) t) ++ (record_at table p ∷ []) = by_last ∙ rw g in
+          let d : distinct (key_ids (own m t)) ≡ true = (select_keeps (has_mixed m) t (tests t x.ok)).once in
+          a ∙ sym (newest_decides k (own m (take (length rest) t)) (record_at table p) (rw o at d)) ∙ rw (← o)
+
+-- no place is left
+pub none_newest : (m k : List ℕ) {table places left : List ℕ} → NoneBehind m table places left → length left ≡ 0
+    → false ≡ withdrawable k (own m (table_in table))
 unfolding withdrawable judge own
-none_newest m k t zero h e = rw (← e)
-none_newest m k t (suc n) h e = absurd (omega arith)
-
--- the first n records, by the last of them
-take_last : (t : model.Table) (n : ℕ) → 0 < n → n ≤ length t → take n t ≡ take (n - 1) t ++ (get_or t (n - 1) no_record ∷ [])
-take_last t zero h l = absurd (omega arith)
-take_last t (suc i) h l = let e : suc i - 1 ≡ i = omega arith in rw e (take-suc t i no_record (omega arith))
-
-module _ (m : List ℕ) {table places : List ℕ} (x : Indexed table places) (n : ℕ) (h : 0 < n) (l : n ≤ length places) {b : Bool}
-    (e : b ≡ eq_bytes (row (get_or places (n - 1) 0 + mixed_at) table) m) (before : own m (take n (table_in table)) ≡ own m (table_in table)) where
-  abbrev t : model.Table
-  t = table_in table
-
-  abbrev r : model.Record
-  r = record_at table (get_or places (n - 1) 0)
-
-  -- those of the first n, where b says whether the last of them is one
-  by_last : own m t ≡ own m (take (n - 1) t) ++ cons_if b r []
-  unfolding own record_at
-  by_last =
-      let i : get_or t (n - 1) no_record ≡ r = sym (record-at x (n - 1) (omega arith)).is in
-      sym before ∙ rw (take_last t n h (omega (arith, length-places x)), i, select-append (has_mixed m) (take (n - 1) t) (r ∷ []), ← e)
-
-  pub not_own : b ≡ false → own m (take (n - 1) (table_in table)) ≡ own m (table_in table)
-  not_own f = sym (by_last ∙ rw f (append-nil (own m (take (n - 1) t))))
-
-  pub is_newest : (k : List ℕ) → b ≡ true → {a : Bool} → a ≡ (eq_bytes (record_at table (get_or places (n - 1) 0)).key_id k && eqb (record_at table (get_or places (n - 1) 0)).count 0)
-      → a ≡ withdrawable k (own m (table_in table))
-  unfolding own
-  is_newest k f a =
-      let o : own m t ≡ own m (take (n - 1) t) ++ (r ∷ []) = by_last ∙ rw f in
-      let d : distinct (key_ids (own m t)) ≡ true = (select_keeps (has_mixed m) t (tests t x.ok)).once in
-      a ∙ sym (newest_decides k (own m (take (n - 1) t)) r (rw o at d)) ∙ rw (← o)
+none_newest m k {table} w e = let n : own m (take 0 (table_in table)) ≡ own m (table_in table) = rw e at w.before in rw (← n)

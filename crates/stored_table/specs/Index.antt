@@ -1,5 +1,5 @@
 -- The index of a stored table, as it is found.
-use Rattle.std.specs.Prelude.{◌≡◌, ℕ, ◌≤◌, Bool, true, cond, ◌&&◌, List, [], ◌∷◌, length, take}
+use Rattle.std.specs.Prelude.{◌≡◌, ℕ, ◌≤◌, Bool, ◌&&◌, Option, Some, None, List, [], ◌∷◌, length, take}
 use Rattle.std.proofs.Math.Option.{none, some}
 use Rattle.model.specs.Lists.{distinct}
 use Rattle.model.specs.Tlv.{Tlv}
@@ -7,13 +7,17 @@ use Rattle.model.specs.Layouts.{matches}
 use Rattle.model.specs.Records.{stored_record, max_own, decode}
 use Rattle.tlv.specs.Rows.{rows, each_few}
 use Rattle.stored_table.specs.Stored.{key_id_at, mixed_at, table_in, Indexed}
-use Rattle.stored_table.specs.declared.index.Index.{Index}
 
--- a reader gave this index and left these places, or none where a stretch is the stored form of no table
-pub record IndexIs (s places : List ℕ) (r : Index) : Type 0 where
-  pub within : r.len ≤ length places
-  pub view : decode s ≡ cond r.ok (some (table_in s)) none
-  pub indexed : r.ok ≡ true → Indexed s (take r.len places)
+-- a stretch is the stored form of a table of n records that start at the first of these places
+pub record IndexOf (s places : List ℕ) (n : ℕ) : Type 0 where
+  pub within : n ≤ length places
+  pub view : decode s ≡ some (table_in s)
+  pub indexed : Indexed s (take n places)
+
+-- a reader gave this number of records and left these places, or gave none where a stretch is the stored form of no table
+abbrev pub IndexIs : (s places : List ℕ) → Option ℕ → Type 0
+IndexIs s places None = decode s ≡ none
+IndexIs s places (Some n) = IndexOf s places n
 
 -- a TLV is a stored record
 abbrev pub is_stored : Tlv → Bool

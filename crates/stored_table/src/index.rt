@@ -12,39 +12,29 @@ fn obeys(table: &[u8], places: &[usize]) -> bool
     requires { Within mixed_at places.now table.now }
     ensures { result ≡ few_distinct table.now places.now }
 {
-    if !each_few(table, places, MIXED, MAX_OWN) {
-        return false;
-    }
-    all_distinct(table, places, KEY_ID)
-}
-
-// How many records a stored table has, if there is one.
-#[derive(Clone, Copy)]
-pub struct Index {
-    pub ok: bool,
-    pub len: usize,
+    each_few(table, places, MIXED, MAX_OWN) && all_distinct(table, places, KEY_ID)
 }
 
 // The index of the table of which a stretch is the stored form, if it is one: how many records it has, and where they start. What stands past their
 // number is open.
-pub fn index_of(table: &[u8], places: &mut [usize; MAX_RECORDS]) -> Index
+pub fn index_of(table: &[u8], places: &mut [usize; MAX_RECORDS]) -> Option<usize>
     ensures { IndexIs table.now places.new result }
 {
     let mut len = 0;
     let mut at = 0;
+
+    // A turn goes to where the record that it read ends: no range or iterator says the places in advance.
     while at < table.len() {
         if len == MAX_RECORDS {
-            return Index { ok: false, len: 0 };
+            return None;
         }
         let end = after_record(table, at);
         if table.len() < end {
-            return Index { ok: false, len: 0 };
+            return None;
         }
         places[len] = at;
         len += 1;
         at = end;
     }
-    let all = &places[..];
-    let ok = obeys(table, &all[0..len]);
-    Index { ok, len }
+    obeys(table, &places[..len]).then_some(len)
 }

@@ -81,17 +81,12 @@ fn put_counted(out: &mut [u8], table: &[u8], places: &[usize], i: usize, count: 
 }
 
 // Whether the record at a place goes: it has the mixed token and, unless the KeyID is empty, the KeyID.
+#[tactic(auto, unfolding(crate::specs::Stored::record_at))]
 fn is_going(table: &[u8], place: usize, mixed: &[u8], key: &[u8]) -> bool
     requires { Stands table.now place }
     ensures { result ≡ goes mixed.now key.now (record_at table.now place) }
 {
-    if !row_is(table, place + MIXED, mixed) {
-        return false;
-    }
-    if key.len() == 0 {
-        return true;
-    }
-    row_is(table, place + KEY_ID, key)
+    row_is(table, place + MIXED, mixed) && (key.is_empty() || row_is(table, place + KEY_ID, key))
 }
 
 // The number of the first record from i on that goes; if none does, how many there are.
@@ -99,39 +94,26 @@ pub fn next_going(table: &[u8], places: &[usize], i: usize, mixed: &[u8], key: &
     requires { Indexed table.now places.now × (i ≤ length places.now) }
     ensures { result ≡ i + stay_first mixed.now key.now (drop i (table_in table.now)) }
 {
-    let mut j = i;
-    while j < places.len() {
+    for j in i..places.len() {
         if is_going(table, places[j], mixed, key) {
             return j;
         }
-        j += 1;
     }
-    j
+    places.len()
 }
 
 // Where record j starts; where the table ends, if there are no more.
+#[tactic(auto, using(crate::proofs::IndexLaws::place_is, crate::proofs::LeftLaws::end_is))]
 fn start_of(table: &[u8], places: &[usize], j: usize) -> usize
     requires { Indexed table.now places.now }
     ensures { result ≡ length (encode (take j (table_in table.now))) }
 {
-    if j < places.len() {
-        return places[j];
-    }
-    table.len()
-}
-
-// The stored form of the records from i up to j.
-fn stored_from<'a>(table: &'a [u8], places: &[usize], i: usize, j: usize) -> &'a [u8]
-    requires { Indexed table.now places.now × (i ≤ j) }
-    ensures { result.now ≡ encode (take (j - i) (drop i (table_in table.now))) }
-{
-    let from = start_of(table, places, i);
-    let to = start_of(table, places, j);
-    &table[from..to]
+    places.get(j).copied().unwrap_or(table.len())
 }
 
 // The table without the record of a mixed token that has this KeyID or, if the KeyID is empty, without all of the mixed token's. The rest keeps its
 // order and closes the gap: what stands between two records that go is written at once.
+#[tactic(auto, using(crate::proofs::IndexLaws::place_is, crate::proofs::LeftLaws::stored_ends, crate::proofs::LeftLaws::end_is))]
 pub fn put_removed(
     out: &mut [u8],
     table: &[u8],
@@ -144,13 +126,14 @@ pub fn put_removed(
         result out.new result }
 {
     let mut end = 0;
-    let mut i = 0;
-    while i < places.len() {
-        let j = next_going(table, places, i, mixed, key);
-        end = put_bytes(out, end, stored_from(table, places, i, j));
-        i = j + 1;
+    let mut from = 0;
+    for (i, place) in places.iter().enumerate() {
+        if is_going(table, *place, mixed, key) {
+            end = put_bytes(out, end, &table[from..*place]);
+            from = start_of(table, places, i + 1);
+        }
     }
-    end
+    put_bytes(out, end, &table[from..])
 }
 
 // Writes the stored form of the table that a change leaves. The change is that of a command s, lent this mixed token and this KeyID.

@@ -32,17 +32,20 @@ fn is_given(table: &[u8], place: usize, s: &[u8], handles: &[usize]) -> bool
     requires within { Within 0 handles.now s.now }
     ensures { result ≡ (empty (rows 0 handles.now s.now) || among (row place table.now) (rows 0 handles.now s.now)) }
 {
-    if handles.len() == 0 {
-        return true;
-    }
-    let mut j = 0;
-    while j < handles.len() {
-        if same_row(table, place, s, handles[j]) {
-            return true;
-        }
-        j += 1;
-    }
-    false
+    handles.is_empty()
+        || handles
+            .iter()
+            .any(|handle| same_row(table, place, s, *handle))
+}
+
+// Whether the record at a place is chosen by a mixed token and the handles given, which are rows of s.
+#[tactic(auto, unfolding(crate::specs::Stored::record_at))]
+fn is_chosen(table: &[u8], place: usize, mixed: &[u8], s: &[u8], handles: &[usize]) -> bool
+    requires stands { Stands table.now place }
+    requires within { Within 0 handles.now s.now }
+    ensures { result ≡ is_chosen mixed.now (rows 0 handles.now s.now) (record_at table.now place) }
+{
+    row_is(table, place + MIXED, mixed) && is_given(table, place + KEY_ID, s, handles)
 }
 
 // How many records are chosen by a mixed token and the handles given, which are rows of s: at most eight, because a mixed token has no more. Their
@@ -61,16 +64,11 @@ pub fn choose(
     ensures { ChosenAre (positions (is_chosen mixed.now (rows 0 handles.now s.now)) 0 (table_in table.now)) chosen.new result }
 {
     let mut len = 0;
-    let mut i = 0;
-    while i < places.len() {
-        let place = places[i];
-        if row_is(table, place + MIXED, mixed) {
-            if is_given(table, place + KEY_ID, s, handles) {
-                chosen[len] = i;
-                len += 1;
-            }
+    for (i, place) in places.iter().enumerate() {
+        if is_chosen(table, *place, mixed, s, handles) {
+            chosen[len] = i;
+            len += 1;
         }
-        i += 1;
     }
     len
 }
@@ -84,14 +82,12 @@ pub fn is_own(table: &[u8], places: &[usize], mixed: &[u8], key: &[u8]) -> bool
 }
 
 // Whether the record at a place has this KeyID and has not signed.
+#[tactic(auto, unfolding(crate::specs::Stored::record_at))]
 fn is_unsigned(table: &[u8], place: usize, key: &[u8]) -> bool
     requires { Stands table.now place }
     ensures { result ≡ (eq_bytes (record_at table.now place).key_id key.now && eqb (record_at table.now place).count 0) }
 {
-    if !row_is(table, place + KEY_ID, key) {
-        return false;
-    }
-    count_of(table, place) == 0
+    row_is(table, place + KEY_ID, key) && count_of(table, place) == 0
 }
 
 // Whether the record of a mixed token with this KeyID can be taken back: it is the newest of the mixed token's and has not signed. So the last record
@@ -100,12 +96,9 @@ pub fn is_withdrawable(table: &[u8], places: &[usize], mixed: &[u8], key: &[u8])
     requires { Indexed table.now places.now }
     ensures { result ≡ withdrawable key.now (own mixed.now (table_in table.now)) }
 {
-    let mut i = places.len();
-    while 0 < i {
-        i -= 1;
-        let last = places[i];
-        if row_is(table, last + MIXED, mixed) {
-            return is_unsigned(table, last, key);
+    for place in places.iter().rev() {
+        if row_is(table, *place + MIXED, mixed) {
+            return is_unsigned(table, *place, key);
         }
     }
     false

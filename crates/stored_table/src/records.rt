@@ -43,6 +43,7 @@ pub fn name_len(table: &[u8], place: usize) -> usize
 }
 
 // The KeyID of the record at a place.
+#[tactic(auto, unfolding(crate::specs::Stored::record_at))]
 pub fn key_of(table: &[u8], place: usize) -> &[u8]
     requires { Stands table.now place }
     ensures { result.now ≡ (record_at table.now place).key_id }
@@ -53,6 +54,7 @@ pub fn key_of(table: &[u8], place: usize) -> &[u8]
 }
 
 // The mixed token of the record at a place.
+#[tactic(auto, unfolding(crate::specs::Stored::record_at))]
 pub fn mixed_of(table: &[u8], place: usize) -> &[u8]
     requires { Stands table.now place }
     ensures { result.now ≡ (record_at table.now place).mixed }
@@ -63,6 +65,7 @@ pub fn mixed_of(table: &[u8], place: usize) -> &[u8]
 }
 
 // The name of the record at a place.
+#[tactic(auto, unfolding(crate::specs::Stored::record_at))]
 pub fn name_of(table: &[u8], place: usize) -> &[u8]
     requires { Stands table.now place }
     ensures { result.now ≡ (record_at table.now place).name }
@@ -81,6 +84,7 @@ pub fn count_place(table: &[u8], place: usize) -> usize
 }
 
 // The counter of the record at a place.
+#[tactic(auto, unfolding(crate::specs::Stored::record_at))]
 pub fn count_of(table: &[u8], place: usize) -> u32
     requires { Stands table.now place }
     ensures { result ≡ (record_at table.now place).count }

@@ -79,6 +79,14 @@ module _ (s : List ℕ) (at : ℕ) where
       (λ h k d. impossible cc)
       (λ h d. impossible cc)
 
+  -- where bytes are left, and no TLV stands there, is one that is none
+  pub no-tlv : at < length s → ((tag start end : ℕ) → head_at s at ≡ Found tag start end → ⊥) → head_at s at ≡ Bad
+  no-tlv k f =
+      cases
+      (λ h d. absurd (omega arith))
+      (λ h l d. d)
+      (λ h d. absurd (f _ _ _ d))
+
 -- ---- the run of TLVs from a place on
 
 past_skip : (k : ℕ) (l : List ℕ) → k ≤ length l → tlvs_past k l ≡ tlvs (drop k l)

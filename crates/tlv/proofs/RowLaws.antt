@@ -3,12 +3,12 @@
 use mathlib.Core.Path.{◌≡◌, refl, sym, ap, ◌∙◌, fun_ext}
 use mathlib.Core.Bool.{Bool, true, false, not, cond, ◌&&◌, and-true, and-false}
 use mathlib.Core.List.{List, [], ◌∷◌, ◌++◌, map, map-append}
-use Prim.Native.Nat.{ℕ, zero, suc, ◌+◌, ◌-◌, ◌≤◌, ◌<◌}
+use Prim.Native.Nat.{ℕ, zero, suc, ◌+◌, ◌-◌, ◌≤◌, ◌<◌, min}
 use native.Mathlib.Nat.{zero-add, suc-add, pos_of_ne-zero}
 use native.Mathlib.Numerals.{add-one}
 use native.Mathlib.Omega.{arith}
 use lib.ListN.{length, get_or, take, drop, set, drop_of_length-le, length-append, length-drop, length-map, get_or-append, get_or-map}
-use lib.Seq.{take-nil, take-suc, take-suc-set, drop-cons, drop-drop, get_or_at}
+use lib.Seq.{take-length, take-nil, take-suc, take-suc-set, drop-cons, drop-drop, get_or_at}
 use lib.Dec.{eqb, leb, ltb}
 use borrow.Author.Tests.{ltb-true, ltb-false, leb-true, leb-false, le-leb, lt-leb, eq-eqb, ne_eqb, eqb-true, eqb-false}
 use Rattle.model.specs.Lists.{all, cons_if, eq_bytes, among, distinct}
@@ -144,10 +144,14 @@ times-alike f v (c ∷ cs) =
     (λ e. rw (times_cons v c cs, alike_cons, e, eq-eqb (f c) (f v) (ap f (eq_bytes-eq c v e))) (omega (arith, times-alike f v cs)))
     (λ e. rw (times_cons v c cs, alike_cons, e) (omega (arith, times-alike f v cs)))
 
-map-drop : (f : List ℕ → ℕ) (n : ℕ) (cs : List (List ℕ)) → drop n (map f cs) ≡ map f (drop n cs)
+pub map-drop : {A B : Type 0} (f : A → B) (n : ℕ) (cs : List A) → drop n (map f cs) ≡ map f (drop n cs)
 map-drop f zero cs = refl
 map-drop f (suc n) [] = refl
 map-drop f (suc n) (c ∷ cs) = map-drop f n cs
+
+-- what is left of a list from a place on, as a slice of it is seen
+pub take-rest : {A : Type 0} (i : ℕ) (l : List A) → take (length l - i) (drop i l) ≡ drop i l
+take-rest i l = rw (← length-drop i l, take-length (drop i l))
 
 -- ---- a walk over the rows
 
@@ -164,13 +168,28 @@ module _ (off : ℕ) (at s : List ℕ) where
   few-all most h = sym (few-from most (rows off at s) ∙ few-short most (rows off at s) (omega (arith, length-rows)))
 
   module _ (i : ℕ) where
+    -- the rows behind it, which end where the places do
+    pub rows_behind : rows off (take (length at - i) (drop i at)) s ≡ drop i (rows off at s)
+    unfolding rows
+    rows_behind = rw take-rest (sym (map-drop (λ p. row (p + off) s) i at))
+
     -- past the last row
     pub rows_end : length at ≤ i → drop i (rows off at s) ≡ []
     rows_end h = drop_of_length-le (rows off at s) {i = i} (omega (arith, length-rows))
 
+    -- the rows from it on, or none where it is past the end
+    pub rows_from : (m : ℕ) → m ≡ min i (length at) → rows off (take (length at - m) (drop m at)) s ≡ drop i (rows off at s)
+    unfolding rows
+    rows_from m e =
+        split (leb i (length at))
+        (λ h. let l : m ≡ i = omega (arith, e, leb-true _ _ h) in rw l rows_behind)
+        (λ h.
+        let l : length at - m ≡ 0 = omega (arith, e, leb-false _ _ h) in
+        rw l (sym (rows_end (omega (arith, leb-false _ _ h)))))
+
     -- of the last `most` rows none is too often there
-    pub few-end : (most : ℕ) → i ≤ length at → length at - i ≤ most → few_from most (drop i (rows off at s)) ≡ true
-    few-end most h k = few-short most (drop i (rows off at s)) (simp length-drop (omega (arith, length-rows)))
+    pub few-end : (most : ℕ) → length at - most ≤ i → few_from most (drop i (rows off at s)) ≡ true
+    few-end most h = few-short most (drop i (rows off at s)) (simp length-drop (omega (arith, length-rows)))
 
     -- at row i
     module _ (h : i < length at) where
@@ -191,11 +210,11 @@ module _ (off : ℕ) (at s : List ℕ) where
       unfolding often
       often-at most e = rw (rows_at, e)
 
-      -- x goes on behind it, or is false: r is what the test gave, b which way was taken
-      pub few-at : (most : ℕ) {x r b : Bool} → x ≡ few_from most (drop i (rows off at s)) → r ≡ often most (drop i (rows off at s)) → r ≡ b
-          → x ≡ (not b && few_from most (drop (i + 1) (rows off at s)))
+      -- the test goes on behind it, or is false: r is what a test of this row gave, b which way was taken
+      pub few-at : (most : ℕ) {r b : Bool} → r ≡ often most (drop i (rows off at s)) → r ≡ b
+          → few_from most (drop i (rows off at s)) ≡ (not b && few_from most (drop (i + 1) (rows off at s)))
       unfolding often
-      few-at most d e f = d ∙ rw (← f, e, rows_at, times-own, more_than)
+      few-at most e f = rw (← f, e, rows_at, times-own, more_than)
 
       mark-at : get_or (map mark (rows off at s)) i 0 ≡ mark (row (get_or at i 0 + off) s)
       mark-at =

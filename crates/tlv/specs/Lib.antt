@@ -5,3 +5,4 @@ pub mod Spans
 pub mod Writing
 pub mod Rows
 pub mod Firsts
+pub mod RowsOf

@@ -10,24 +10,19 @@ pub fn well_formed(s: &[u8], levels: usize) -> bool
     ensures { result ≡ well_formed levels s.now }
 {
     if levels == 0 {
-        return s.len() == 0;
+        return s.is_empty();
     }
     let mut at = 0;
-    loop {
-        let h = tlv_at(s, at);
-        match h {
-            Head::End => return true,
-            Head::Bad => return false,
-            Head::Tlv { tag, start, end } => {
-                if tag / COMPOSITE % 2 == 1 {
-                    if !well_formed(&s[start..end], levels - 1) {
-                        return false;
-                    }
-                }
-                at = end;
-            }
+    while at < s.len() {
+        let Head::Tlv { tag, start, end } = tlv_at(s, at) else {
+            return false;
+        };
+        if tag / COMPOSITE % 2 == 1 && !well_formed(&s[start..end], levels - 1) {
+            return false;
         }
+        at = end;
     }
+    true
 }
 
 // Whether a stretch's first TLV ends with the stretch.

@@ -21,10 +21,8 @@ fn put_long(out: &mut [u8], at: usize, src: &[u8]) -> usize
     ensures { Wrote out.old at src.now (length src.now) out.new result }
 {
     let last = src.len() - 16;
-    let mut i = 0;
-    while i < last {
+    for i in (0..last).step_by(16) {
         put_block(out, at + i, src, i);
-        i += 16;
     }
     put_block(out, at + last, src, last)
 }
@@ -46,12 +44,10 @@ fn put_few(out: &mut [u8], at: usize, src: &[u8]) -> usize
     requires { at + length src.now ≤ length out.old }
     ensures { Wrote out.old at src.now (length src.now) out.new result }
 {
-    let mut i = 0;
-    while i < src.len() {
-        out[at + i] = src[i];
-        i += 1;
+    for (i, b) in src.iter().enumerate() {
+        out[at + i] = *b;
     }
-    at + i
+    at + src.len()
 }
 
 // Writes all of src from a place on. Every writer returns the place after what it wrote.

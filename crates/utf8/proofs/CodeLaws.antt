@@ -3,10 +3,13 @@
 use mathlib.Core.Path.{◌≡◌, refl, sym, ap, ◌∙◌}
 use mathlib.Core.Bool.{Bool, true, false, not, ◌&&◌, ◌||◌}
 use mathlib.Core.List.{List, [], ◌∷◌}
-use Prim.Native.Nat.{ℕ, suc, ◌+◌, ◌-◌, ◌≤◌, ◌<◌}
+use Prim.Native.Nat.{ℕ, zero, suc, ◌+◌, ◌-◌, ◌≤◌, ◌<◌}
 use native.Mathlib.Numerals.{add-one}
 use native.Mathlib.Omega.{arith}
-use lib.ListN.{length, get_or, get_or-eq_default}
+use lib.ListN.{length, get_or, take, drop, length-drop, get_or-eq_default}
+use Rattle.std.proofs.Common.{fold}
+use Rattle.std.proofs.lemmas.List.Sums.{fold_more}
+use Rattle.std.proofs.lemmas.List.{get_or-drop}
 use lib.Dec.{leb, ltb}
 use lib.Bits.{bit_or, or_lt, or_add_and, and_le_l, and_le_r}
 use borrow.Author.Tests.{lt-ltb, le-ltb, leb-true, leb-false, le-leb, lt-leb}
@@ -96,12 +99,26 @@ or_plain a b =
     (λ f. rw (e, f) (lt-leb (bit_or a b) 0x7F (omega (arith, leb-false b 0x7F f, or_add_and a b, and_le_l a b)))))
     (λ e. rw e (lt-leb (bit_or a b) 0x7F (omega (arith, leb-false a 0x7F e, or_add_and a b, and_le_r a b))))
 
-pub next-plain : (s : List ℕ) (at i any : ℕ) → leb any 0x7F ≡ plain i s at → leb (bit_or any (get_or s (at + i) 0)) 0x7F ≡ plain (i + 1) s at
+next-plain : (s : List ℕ) (at i any : ℕ) → leb any 0x7F ≡ plain i s at → leb (bit_or any (get_or s (at + i) 0)) 0x7F ≡ plain (suc i) s at
 unfolding each plain_at
-next-plain s at i any e = rw (add-one i, ← e) (or_plain any (get_or s (at + i) 0))
+next-plain s at i any e = rw (← e) (or_plain any (get_or s (at + i) 0))
 
-pub below_80 : (any : ℕ) → ltb any 0x80 ≡ leb any 0x7F
+below_80 : (any : ℕ) → ltb any 0x80 ≡ leb any 0x7F
 below_80 any =
     split (leb any 0x7F)
     (λ f. lt-ltb any 0x80 (omega (arith, leb-true any 0x7F f)) ∙ sym f)
     (λ f. le-ltb any 0x80 (omega (arith, leb-false any 0x7F f)) ∙ sym f)
+
+joined-plain : (s : List ℕ) (at n : ℕ) → at + n ≤ length s → leb (fold (λ any b. bit_or any b) 0 (take n (drop at s))) 0x7F ≡ plain n s at
+unfolding each
+joined-plain s at zero h = refl
+joined-plain s at (suc n) h =
+    let i : n < length (drop at s) = rw length-drop (omega arith) in
+    rw (← add-one n, fold_more (λ (any b : ℕ). bit_or any b) 0 (drop at s) n 0 i, get_or-drop) (next-plain s at n _ (joined-plain s at n (omega arith)))
+
+-- n bytes from a place on, all joined: the highest bit of one stays
+pub plain-joined : (s : List ℕ) (at n r : ℕ) → at + n ≤ length s → r ≡ fold (λ any b. bit_or any b) 0 (take (at + n - at) (drop at s))
+    → ltb r 0x80 ≡ plain n s at
+plain-joined s at n r h e =
+    let m : at + n - at ≡ n = omega arith in
+    below_80 r ∙ ap (λ (x : ℕ). leb x 0x7F) (rw m at e) ∙ joined-plain s at n h

@@ -25,11 +25,7 @@ fn is_barred(c: u8, d: u8) -> bool
 fn is_tail(s: &[u8], at: usize) -> bool
     ensures { result ≡ within tail (get_or s.now at 0) }
 {
-    if s.len() <= at {
-        return false;
-    }
-    let d = s[at];
-    (0x80 <= d) & (d <= 0xBF)
+    matches!(s.get(at), Some(0x80..=0xBF))
 }
 
 // The place after the character at a place; the same place where none stands.
@@ -73,6 +69,7 @@ fn after_char(s: &[u8], at: usize) -> usize
 fn by_chars(s: &[u8]) -> bool
     ensures { result ≡ utf8 s.now }
 {
+    // No `for`: a turn goes on by the length of the character that it read.
     let mut at: usize = 0;
     while at < s.len() {
         let next = after_char(s, at);
@@ -112,11 +109,9 @@ fn window(s: &[u8], at: usize) -> bool
     ensures { result ≡ places 16 s.now at }
 {
     let mut wrong = false;
-    let mut i: usize = 0;
-    while i < WINDOW {
+    for i in 0..WINDOW {
         let p = at + i;
-        wrong = wrong | misplaced(s[p], s[p + 1], s[p + 2], s[p + 3]);
-        i += 1;
+        wrong |= misplaced(s[p], s[p + 1], s[p + 2], s[p + 3]);
     }
     !wrong
 }
@@ -127,6 +122,7 @@ fn middle(s: &[u8]) -> bool
     ensures { result ≡ places (length s.now - 3) s.now 0 }
 {
     let last = s.len() - SPAN;
+    // Not a `for` over `step_by`, which tests twice a turn whether the end is reached: 621 instructions for 602 of 128 bytes.
     let mut at: usize = 0;
     while at < last {
         if !window(s, at) {
@@ -160,13 +156,7 @@ fn is_plain(s: &[u8], at: usize, n: usize) -> bool
     requires { at + n ≤ length s.now }
     ensures { result ≡ plain n s.now at }
 {
-    let mut any: u8 = 0;
-    let mut i: usize = 0;
-    while i < n {
-        any = any | s[at + i];
-        i += 1;
-    }
-    any < 0x80
+    s[at..at + n].iter().fold(0, |any, byte| any | byte) < 0x80
 }
 
 // Whether every byte is ASCII, k at a time. The last k are looked at together, some of them once more.
@@ -175,6 +165,7 @@ fn is_plain_by(s: &[u8], k: usize) -> bool
     ensures { result ≡ plain (length s.now) s.now 0 }
 {
     let last = s.len() - k;
+    // Not a `for` over `step_by`, as in `middle`: 59 instructions for 37 of 40 bytes.
     let mut at: usize = 0;
     while at < last {
         if !is_plain(s, at, k) {

@@ -1,29 +1,14 @@
 -- AAID and ASSERTION_INFO, then what the mode says.
 use mathlib.Core.Path.{refl, sym, ◌∙◌}
 use native.Mathlib.Omega.{arith}
-use Rattle.layouts.proofs.LeafLaws.{sized-stands, signed_none, signed-other, signed-mode}
+use Rattle.layouts.proofs.LeafLaws.{sized-stands, signed-mode}
 use Rattle.layouts.proofs.is_signed_data.Goals as goal
-
-pub returns-then-s-a2 : goal.returns-then-s-a2
-returns-then-s-a2 c = sym (signed_none _ c.after_sized-a1.ensures c.after_sized-a2.ensures c.if-s-a2.true)
 
 pub overflow_add-mode : goal.overflow_add-mode
 overflow_add-mode c = omega (arith, sized-stands _ _ _ _ _ c.after_sized-a2.ensures c.if-s-a2.false)
 
 pub bounds-s-a1 : goal.bounds-s-a1
 bounds-s-a1 c = omega (arith, sized-stands _ _ _ _ _ c.after_sized-a2.ensures c.if-s-a2.false)
-
-pub returns-then-mode-lt1 : goal.returns-then-mode-lt1
-returns-then-mode-lt1 c =
-    sym
-    (signed-other _ c.after_sized-a1.ensures c.after_sized-a2.ensures c.if-s-a2.false refl (λ e. omega arith)
-    (λ e. omega arith))
-
-pub returns-then-mode-gt2 : goal.returns-then-mode-gt2
-returns-then-mode-gt2 c =
-    sym
-    (signed-other _ c.after_sized-a1.ensures c.after_sized-a2.ensures c.if-s-a2.false refl (λ e. omega arith)
-    (λ e. omega arith))
 
 pub returns : goal.returns
 returns c =

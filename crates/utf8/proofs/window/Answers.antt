@@ -6,13 +6,12 @@ use Rattle.utf8.proofs.window.Goals as goal
 
 pub loop-i-init : goal.loop-i-init
 unfolding each
-loop-i-init c = (omega arith, refl)
+loop-i-init c = refl
 
 pub loop-i-preserved : goal.loop-i-preserved
-loop-i-preserved c =
-    (omega arith, next_place c.args.s.now c.args.at c.loop-i.i c.loop-i.invariant.1 c.misplaced-wrong.ensures)
+loop-i-preserved c = next_place c.args.s.now c.args.at c.loop-i.i c.loop-i.invariant c.misplaced-wrong.ensures
 
 pub returns : goal.returns
 returns c =
     let e : c.loop-i.i ≡ 16 = omega arith in
-    none_wrong _ (rw e at c.loop-i.invariant.1)
+    none_wrong _ (rw e at c.loop-i.invariant)

@@ -1,7 +1,7 @@
 -- The reply is written from the front of its output and the table that is left from the front of the other; both are those of the decision.
-use mathlib.Core.Path.{◌≡◌, refl}
+use mathlib.Core.Path.{◌≡◌, refl, sym}
 use lib.ListN.{length}
-use native.Mathlib.Nat.{sub-zero}
+use lib.Seq.{length-take-le}
 use borrow.Author.Rules.{rules}
 use Rattle.authenticator.proofs.CallLaws.{register-lent, challenge-ordered, reply-ready, reply-short, reply-fits, ends-gave}
 use Rattle.authenticator.proofs.call.perform.Goals as goal
@@ -9,8 +9,9 @@ use Rattle.authenticator.proofs.call.perform.Goals.{After-mixed_token-mixed}
 
 pub returns : goal.returns
 returns c =
-    ends-gave c.decide-decision.ensures _ _ _ _ c.mixed_token-mixed.ensures _ _ c.is_draft.ensures (rw sub-zero at c.write_reply.ensures)
-    c.put_left-table_len.ensures
+    rw (← c.lent.view_is)
+    (ends-gave c.decide-decision.ensures _ _ _ _ c.mixed_token-mixed.ensures _ _ c.is_draft.ensures c.write_reply.ensures
+    c.put_left-table_len.ensures)
 
 pub mixed_token-mixed-requires : goal.mixed_token-mixed-requires
 mixed_token-mixed-requires c = c.params_of-params.ensures.0
@@ -23,15 +24,16 @@ pub decide-decision-requires : goal.decide-decision-requires
 decide-decision-requires c =
     record {
       params_read = c.params_of-params.ensures;
-      mixed_len = λ e. (search rules, register-lent _ c.requires.nonce_value e);
+      mixed_len = λ e. (search rules, register-lent _ (rw (← c.lent.view_is) at c.requires.lent_value) e);
       indexed = (c.requires.indexed, refl);
     }
 
-pub reply_len-len-requires : goal.reply_len-len-requires
-reply_len-len-requires c =
+pub reply_len-response_len-requires : goal.reply_len-response_len-requires
+reply_len-response_len-requires c =
     let k = c.decide-decision.ensures in
+    let lent = rw (← c.lent.view_is) at c.requires.lent_value in
     record {
-      start_le_end = (challenge-ordered c.params_of-params.ensures.0, rw sub-zero (reply-short k _ _ _ _ c.requires.nonce_value));
+      start_le_end = (challenge-ordered c.params_of-params.ensures.0, reply-short k _ _ _ _ lent);
       indexed = c.requires.indexed;
     }
 
@@ -39,23 +41,24 @@ pub write_reply-requires : goal.write_reply-requires
 write_reply-requires c =
     let s = c.requires in
     let k = c.decide-decision.ensures in
-    let e = c.reply_len-len.ensures in
-    let fits = reply-fits k _ _ _ _ s.nonce_value _ _ s.indexed.ok (rw sub-zero at e) s.least_output_in_bounds.0 in
-    record { ready = rw sub-zero (reply-ready k _ _ _ _ s.nonce_value); indexed = s.indexed; len_value = (e, fits) }
+    let e = c.reply_len-response_len.ensures in
+    let lent = rw (← c.lent.view_is) at s.lent_value in
+    let fits = reply-fits k _ _ _ _ lent _ _ s.indexed.ok e s.room.0 in
+    record { ready = reply-ready k _ _ _ _ lent; indexed = s.indexed; len_value = (e, fits) }
 
 pub put_left-table_len-requires : goal.put_left-table_len-requires
 put_left-table_len-requires c =
     record {
       indexed = c.requires.indexed;
       can = c.decide-decision.ensures.can;
-      max_stored_in_bounds = c.requires.least_output_in_bounds.1;
+      max_stored_in_bounds = c.requires.room.1;
     }
 
 pub params_of-params-requires : goal.params_of-params-requires
 params_of-params-requires c = refl
 
 pub slice_bounds-named-end : goal.slice_bounds-named-end
-slice_bounds-named-end c = c.decide-decision.ensures.within
+slice_bounds-named-end c = sym (length-take-le _ _ c.decide-decision.ensures.within)
 
 pub slice_bounds-put_left-end : goal.slice_bounds-put_left-end
 slice_bounds-put_left-end c = mixed-size (goal.at.slice_bounds-put_left-end c).After-mixed_token-mixed

@@ -1,16 +1,12 @@
-use mathlib.Core.Path.{refl, sym, ◌∙◌}
-use borrow.Author.Rules.{rules}
-use Rattle.command_writer.proofs.HandleLaws.{whole-not, whole-more, whole-end}
+-- The library's walk asks the test of each length.
+use mathlib.Core.Path.{◌∙◌}
+use Rattle.std.proofs.Common.{rules, eqb, tests}
+use Rattle.std.proofs.lemmas.Iterator.{YieldsList-from_slice}
+use Rattle.std.proofs.lemmas.Iterator.Search.{all_from_yields_List}
+use Rattle.command_writer.proofs.HandleLaws.{whole-all}
 use Rattle.command_writer.proofs.lengths.are_whole.Goals as goal
 
-pub loop-i-init : goal.loop-i-init
-loop-i-init c = (search rules, refl)
-
-pub returns-then-sizes-i-ne-HANDLE : goal.returns-then-sizes-i-ne-HANDLE
-returns-then-sizes-i-ne-HANDLE c = sym (c.loop-i.invariant.1 ∙ whole-not _ _ c.loop-i-test.true c.if-sizes-i-ne-HANDLE.true)
-
-pub loop-i-preserved : goal.loop-i-preserved
-loop-i-preserved c = (search rules, c.loop-i.invariant.1 ∙ whole-more _ _ c.loop-i-test.true c.if-sizes-i-ne-HANDLE.false)
-
 pub returns : goal.returns
-returns c = sym (c.loop-i.invariant.1 ∙ whole-end _ _ c.loop-i-test.false)
+returns c =
+    all_from_yields_List (λ n. eqb n 32) _ _ _ c.all.ensures.ran (YieldsList-from_slice c.args.sizes.now cc) (λ x b q k. search (rules, tests))
+    ∙ whole-all c.args.sizes.now

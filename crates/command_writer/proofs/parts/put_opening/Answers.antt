@@ -6,4 +6,4 @@ use Rattle.command_writer.proofs.parts.put_opening.Goals as goal
 
 pub returns : goal.returns
 returns c =
-    same refl (omega arith) (then c.put_header-a1.ensures (then_run _ _ c.put_tlv-a2.ensures c.put_marked.ensures))
+    same refl (omega arith) (then c.put_header-a1.ensures (then_run _ _ c.put_tlv-a2.ensures c.put.ensures))

@@ -1,27 +1,15 @@
 -- The sum tells the refusals, and else the command is written.
-use mathlib.Core.Path.{◌∙◌, ap}
-use Rattle.model.specs.Tlv.{deregister}
-use Rattle.model.specs.Commands.{gave}
-use Rattle.fields.proofs.RefusalLaws.{ends-refused, ends-wrote}
-use Rattle.command_writer.proofs.LengthLaws.{refuses, accepts, writes}
-use Rattle.command_writer.proofs.WriterLaws.{deregister_counts}
+use Rattle.std.proofs.lemmas.Result.{err_from_is_err_and}
+use Rattle.command_writer.proofs.WriterLaws.{count_refuses, count_room, count_writes}
 use Rattle.command_writer.proofs.writers.write_deregister.Goals as goal
 
-pub returns-then-refusal-ne0 : goal.returns-then-refusal-ne0
-returns-then-refusal-ne0 c =
-    let n = deregister_counts _ _ _ _ c.marked_len.ensures.0 c.one_len.ensures.0 c.one_len-2.ensures.0 in
-    ends-refused _ (refuses deregister _ n.total _ c.refusal_of-refusal.ensures c.if-refusal-ne0.true)
+pub returns-in_err-check_len : goal.returns-in_err-check_len
+returns-in_err-check_len c =
+    let p = err_from_is_err_and c.from_residual.result c.from_residual.ensures.1 in
+    rw (p.1, p.2) (count_refuses c.len-len.ensures _ c.in_err-check_len.ensures)
 
-pub put_deregister-requires : goal.put_deregister-requires
-put_deregister-requires c =
-    let n = deregister_counts _ _ _ _ c.marked_len.ensures.0 c.one_len.ensures.0 c.one_len-2.ensures.0 in
-    let a = accepts deregister _ n.total _ c.refusal_of-refusal.ensures c.if-refusal-ne0.false in
-    (n.sizes a.0, a.1)
+pub put-requires : goal.put-requires
+put-requires c = (count_room c.len-len.ensures c.in_ok-check_len.ensures).1
 
 pub returns : goal.returns
-returns c =
-    let n = deregister_counts _ _ _ _ c.marked_len.ensures.0 c.one_len.ensures.0 c.one_len-2.ensures.0 in
-    let r = c.refusal_of-refusal.ensures in
-    ends-wrote
-    (writes deregister _ n.total _ r c.if-refusal-ne0.false ∙ ap gave (n.children (accepts deregister _ n.total _ r c.if-refusal-ne0.false).0))
-    c.put_deregister.ensures
+returns c = count_writes c.len-len.ensures c.in_ok-check_len.ensures c.put.ensures

@@ -1,23 +1,17 @@
 -- A header alone, which says that nothing follows.
-use mathlib.Core.Path.{refl}
-use mathlib.Core.List.{[]}
-use Rattle.model.specs.Tlv.{le, bytes, get_info}
-use Rattle.model.specs.Writer.{children_for, command_of}
-use Rattle.fields.proofs.RefusalLaws.{ends-refused, ends-wrote}
-use Rattle.command_writer.specs.Lengths.{takes_all}
-use Rattle.command_writer.proofs.LengthLaws.{refuses, accepts, writes}
+use Rattle.std.proofs.lemmas.Result.{err_from_is_err_and}
+use Rattle.model.specs.Tlv.{le, bytes}
+use Rattle.command_writer.proofs.WriterLaws.{info_counts, count_refuses, count_room, count_writes}
 use Rattle.command_writer.proofs.writers.write_get_info.Goals as goal
 
-pub returns-then-refusal-ne0 : goal.returns-then-refusal-ne0
-unfolding takes_all
-returns-then-refusal-ne0 c = ends-refused _ (refuses get_info [] {n = 4} refl _ c.refusal_of-refusal.ensures c.if-refusal-ne0.true)
+pub returns-in_err-check_len : goal.returns-in_err-check_len
+returns-in_err-check_len c =
+    let p = err_from_is_err_and c.from_residual.result c.from_residual.ensures.1 in
+    rw (p.1, p.2) (count_refuses info_counts _ c.in_err-check_len.ensures)
 
 pub put_header-requires : goal.put_header-requires
-unfolding takes_all
-put_header-requires c =
-    (accepts get_info [] {n = 4} refl _ c.refusal_of-refusal.ensures c.if-refusal-ne0.false).1
+put_header-requires c = (count_room info_counts c.in_ok-check_len.ensures).1.1
 
 pub returns : goal.returns
-unfolding takes_all command_of children_for bytes le
-returns c =
-    ends-wrote (writes get_info [] {n = 4} refl _ c.refusal_of-refusal.ensures c.if-refusal-ne0.false) c.put_header.ensures
+unfolding bytes le
+returns c = count_writes info_counts c.in_ok-check_len.ensures c.put_header.ensures

@@ -1,27 +1,17 @@
 -- The sum tells the refusals, and else the command is written.
-use mathlib.Core.Path.{◌∙◌, ap}
-use Rattle.model.specs.Tlv.{sign}
-use Rattle.model.specs.Commands.{gave}
-use Rattle.fields.proofs.RefusalLaws.{ends-refused, ends-wrote}
-use Rattle.command_writer.proofs.LengthLaws.{refuses, accepts, writes}
-use Rattle.command_writer.proofs.WriterLaws.{sign_counts, handles-add_up}
+use Rattle.std.proofs.lemmas.Result.{err_from_is_err_and}
+use Rattle.command_writer.proofs.WriterLaws.{count_refuses, count_room, count_writes}
 use Rattle.command_writer.proofs.writers.write_sign.Goals as goal
 
-pub returns-then-refusal-ne0 : goal.returns-then-refusal-ne0
-returns-then-refusal-ne0 c =
-    let n = sign_counts _ _ _ _ _ _ _ _ _ _ c.marked_len.ensures.0 c.one_len.ensures.0 c.marked_len-2.ensures.0 c.one_len-2.ensures.0 c.marked_len-3.ensures.0 c.handles_len.ensures.0 in
-    ends-refused _ (refuses sign _ n.total _ c.refusal_of-refusal.ensures c.if-refusal-ne0.true)
+pub returns-in_err-check_len : goal.returns-in_err-check_len
+returns-in_err-check_len c =
+    let p = err_from_is_err_and c.from_residual.result c.from_residual.ensures.1 in
+    rw (p.1, p.2) (count_refuses c.len-len.ensures.counts _ c.in_err-check_len.ensures)
 
-pub put_sign-requires : goal.put_sign-requires
-put_sign-requires c =
-    let n = sign_counts _ _ _ _ _ _ _ _ _ _ c.marked_len.ensures.0 c.one_len.ensures.0 c.marked_len-2.ensures.0 c.one_len-2.ensures.0 c.marked_len-3.ensures.0 c.handles_len.ensures.0 in
-    let a = accepts sign _ n.total _ c.refusal_of-refusal.ensures c.if-refusal-ne0.false in
-    record { handles_len = handles-add_up _ _ _ c.handles_len.ensures.0 a.0; len_value = (n.sizes a.0, a.1) }
+pub put-requires : goal.put-requires
+put-requires c =
+    let m = count_room c.len-len.ensures.counts c.in_ok-check_len.ensures in
+    record { whole = c.len-len.ensures.whole m.0; room = m.1 }
 
 pub returns : goal.returns
-returns c =
-    let n = sign_counts _ _ _ _ _ _ _ _ _ _ c.marked_len.ensures.0 c.one_len.ensures.0 c.marked_len-2.ensures.0 c.one_len-2.ensures.0 c.marked_len-3.ensures.0 c.handles_len.ensures.0 in
-    let r = c.refusal_of-refusal.ensures in
-    ends-wrote
-    (writes sign _ n.total _ r c.if-refusal-ne0.false ∙ ap gave (n.children (accepts sign _ n.total _ r c.if-refusal-ne0.false).0))
-    c.put_sign.ensures
+returns c = count_writes c.len-len.ensures.counts c.in_ok-check_len.ensures c.put.ensures

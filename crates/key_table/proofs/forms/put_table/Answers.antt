@@ -1,9 +1,8 @@
-use mathlib.Core.Path.{◌≡◌, refl}
-use Prim.Native.Nat.{ℕ, ◌≤◌, ◌<◌}
+use mathlib.Core.Path.{◌≡◌, ap}
+use Prim.Native.Nat.{◌≤◌}
 use native.Mathlib.Omega.{arith}
-use lib.ListN.{length, get_or}
-use borrow.Author.Rules.{rules}
-use Rattle.key_table.specs.Views.{view_table, no_value}
+use lib.ListN.{length}
+use lib.Seq.{length-take-le}
 use Rattle.key_table.proofs.RuleLaws.{few-records, short-name}
 use Rattle.key_table.proofs.StoreLaws.{stored_none, stored_more, stored-all}
 use Rattle.key_table.proofs.forms.put_table.Goals as goal
@@ -18,26 +17,30 @@ module _ (s : Start) where
       let size : length s.args.t.records ≡ 32 = s.well_formed.1.0.1.1.0.1.0.1 in
       omega (arith, few)
 
-  short : (i : ℕ) → i < s.args.t.len → (get_or s.args.t.records i no_value).name_len ≤ 128
-  short = short-name s.args.t s.requires.t_value fits
+pub held-record-items-requires : goal.held-record-items-requires
+held-record-items-requires c = few (goal.at.held-record-items-requires c).Start
 
-pub loop-i-init : goal.loop-i-init
-loop-i-init c = (search rules, few (goal.at.loop-i-init c).Start, refl, search rules, stored_none _ (view_table c.args.t))
+pub loop-record-init : goal.loop-record-init
+loop-record-init c = (omega arith, stored_none _ c.held-record-items.result.now)
 
 pub put_value-at-requires : goal.put_value-at-requires
 put_value-at-requires c =
-    let l = c.loop-i in
-    (short (goal.at.put_value-at-requires c).Start l.i (omega arith), omega (arith, c.requires, short (goal.at.put_value-at-requires c).Start l.i (omega arith)))
+    let l = c.loop-record in
+    let s = (goal.at.put_value-at-requires c).Start in
+    let items = c.held-record-items.ensures in
+    let short = short-name c.args.t c.requires.t_value (fits s) items l.record-index c.loop-record-test.true in
+    (short, omega (arith, c.requires, short, few s, fits s, ap length items, length-take-le c.args.t.len c.args.t.records (fits s)))
 
-pub loop-i-preserved : goal.loop-i-preserved
-loop-i-preserved c =
-    let l = c.loop-i in (
-      search rules,
-      l.invariant.1,
-      search rules,
-      omega (arith, short (goal.at.loop-i-preserved c).Start l.i (omega arith)),
-      stored_more c.args.t (fits (goal.at.loop-i-preserved c).Start) l.i (omega arith) l.invariant.4 c.put_value-at.ensures,
+pub loop-record-preserved : goal.loop-record-preserved
+loop-record-preserved c =
+    let l = c.loop-record in
+    let s = (goal.at.loop-record-preserved c).Start in
+    let short = short-name c.args.t c.requires.t_value (fits s) c.held-record-items.ensures l.record-index c.loop-record-test.true in (
+      omega (arith, short),
+      stored_more _ l.record-index c.loop-record-test.true l.invariant.1 c.put_value-at.ensures,
     )
 
 pub returns : goal.returns
-returns c = stored-all c.args.t c.loop-i.i (omega arith) c.loop-i.invariant.4
+returns c =
+    let l = c.loop-record in
+    stored-all c.args.t l.record-index (fits (goal.at.returns c).Start) c.held-record-items.ensures (omega arith) l.invariant.1

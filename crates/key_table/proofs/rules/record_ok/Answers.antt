@@ -1,6 +1,7 @@
 -- The types leave only the name to test.
 use mathlib.Core.Path.{sym, ◌∙◌}
 use native.Mathlib.Omega.{arith}
+use borrow.Author.Tests.{lt-leb}
 use Rattle.key_table.proofs.RuleLaws.{Typed, name_long, name-within}
 use Rattle.key_table.proofs.rules.record_ok.Goals as goal
 use Rattle.key_table.proofs.rules.record_ok.Goals.{Start}
@@ -16,9 +17,12 @@ typed c =
       count = omega (arith, g.1.1.1.1.0.1);
     }
 
-pub returns-then-n-gt128 : goal.returns-then-n-gt128
-returns-then-n-gt128 c = sym (name_long _ (typed (goal.at.returns-then-n-gt128 c).Start) c.if-n-gt128.true)
+pub returns-then-r-le128 : goal.returns-then-r-le128
+returns-then-r-le128 c =
+    let n = c.name.ensures in
+    rw n at c.is_username.ensures ∙ sym (name-within _ (typed (goal.at.returns-then-r-le128 c).Start) c.if-r-le128.true)
 
-pub returns : goal.returns
-returns c =
-    c.is_name_in.ensures ∙ sym (name-within _ (typed (goal.at.returns c).Start) c.if-n-gt128.false)
+pub returns-else-r-le128 : goal.returns-else-r-le128
+returns-else-r-le128 c =
+    let long = c.if-r-le128.false in
+    rw (lt-leb c.args.r.name_len 128 (omega arith)) (sym (name_long _ (typed (goal.at.returns-else-r-le128 c).Start) (omega arith)))

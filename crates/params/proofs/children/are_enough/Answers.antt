@@ -1,32 +1,14 @@
-use native.Mathlib.Omega.{arith}
-use mathlib.Core.Path.{◌≡◌, refl, sym, ◌∙◌}
-use lib.ListN.{length}
-use Rattle.params.proofs.TimesLaws.{enough-end, enough-few, enough-more}
+-- All pairs in order is what the definition says of the two lists.
+use mathlib.Core.Path.{◌∙◌}
+use Rattle.std.proofs.Common.{ℕ, rules, tests, leb}
+use Rattle.std.proofs.lemmas.Iterator.{YieldsList-from_slice, YieldsList-from_zip}
+use Rattle.std.proofs.lemmas.Iterator.Search.{all_from_yields_List}
+use Rattle.params.proofs.TimesLaws.{enough_all}
 use Rattle.params.proofs.children.are_enough.Goals as goal
-use Rattle.params.proofs.children.are_enough.Goals.{In-loop-slot, Start}
-
-pub loop-slot-init : goal.loop-slot-init
-loop-slot-init c = (omega arith, refl)
-
--- both arrays have as many places
-lengths : (c : Start) → (length c.args.least ≡ 11) × (length c.args.times ≡ 11)
-lengths c = (c.well_formed.1.0.1.0.1, c.well_formed.0.1.0.1)
-
-pub returns-then-times-slot : goal.returns-then-times-slot
-returns-then-times-slot c =
-    let e = lengths (goal.at.returns-then-times-slot c).Start in
-    sym (c.loop-slot.invariant.1 ∙ enough-few _ _ c.loop-slot.slot (omega (arith, e.0, (goal.at.returns-then-times-slot c).In-loop-slot)) (omega (arith, e.1, (goal.at.returns-then-times-slot c).In-loop-slot)) c.if-times-slot.true)
-
-pub loop-slot-preserved : goal.loop-slot-preserved
-loop-slot-preserved c =
-    let e = lengths (goal.at.loop-slot-preserved c).Start in (
-      omega arith,
-      c.loop-slot.invariant.1 ∙ enough-more _ _ c.loop-slot.slot (omega (arith, e.0, (goal.at.loop-slot-preserved c).In-loop-slot)) (omega (arith, e.1, (goal.at.loop-slot-preserved c).In-loop-slot)) c.if-times-slot.false,
-    )
 
 pub returns : goal.returns
 returns c =
-    sym (c.loop-slot.invariant.1 ∙ enough-end _ _ c.loop-slot.slot (omega (arith, (lengths (goal.at.returns c).Start).0, c.loop-slot-test)))
-
-pub loop-slot-smaller : goal.loop-slot-smaller
-loop-slot-smaller c = omega arith
+    let a = c.args in
+    all_from_yields_List (λ (p : ℕ × ℕ). leb p.0 p.1) c.all.new.self _ _ c.all.ensures.ran
+    (YieldsList-from_zip (YieldsList-from_slice a.least cc) (YieldsList-from_slice a.times cc)) (λ x b q k. search (rules, tests))
+    ∙ enough_all a.least a.times

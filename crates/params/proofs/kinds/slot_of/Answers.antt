@@ -1,5 +1,6 @@
 -- Each field's tag gives its slot, any other tag none.
 use Rattle.std.proofs.Math.Path.{sym}
+use borrow.Author.Rules.{rules}
 use Rattle.params.specs.Slots.{slot_of}
 use Rattle.params.proofs.KindLaws.{slot_none}
 use Rattle.params.proofs.kinds.slot_of.Goals as goal
@@ -45,4 +46,4 @@ unfolding slot_of
 returns-in-10241 c = rw c.in-10241.is
 
 pub returns-in_default : goal.returns-in_default
-returns-in_default c = sym (slot_none _ c.in_default.in_default-own.rest)
+returns-in_default c = sym (slot_none _ (search rules))

@@ -3,7 +3,6 @@ use mathlib.Core.Path.{◌≡◌, sym, ◌∙◌}
 use mathlib.Core.Bool.{true}
 use Prim.Native.Nat.{◌≤◌}
 use lib.ListN.{length}
-use borrow.Author.Tests.{not-true, not-false}
 use Rattle.model.specs.Tlv.{fills}
 use Rattle.params.proofs.ParseLaws.{rest_part, whole-place, broken_long, broken-cut, read_broken}
 use Rattle.params.proofs.parse.params_of.Goals as goal
@@ -11,7 +10,7 @@ use Rattle.params.proofs.parse.params_of.Goals.{Else-not-is_whole}
 
 -- the command's TLV ends with the lent bytes
 whole : (c : Else-not-is_whole) → fills c.args.s.now ≡ true
-whole c = sym c.is_whole.ensures ∙ not-false _ c.if-not-is_whole.false-raw
+whole c = sym c.is_whole.ensures ∙ c.if-not-is_whole.false
 
 place : (c : Else-not-is_whole) → 4 ≤ length c.args.s.now
 place c = whole-place c.args.s.now (whole c)
@@ -21,7 +20,7 @@ returns-then-s-gt-MAX_COMMAND c = read_broken (broken_long _ _ c.if-s-gt-MAX_COM
 
 pub returns-then-not-is_whole : goal.returns-then-not-is_whole
 returns-then-not-is_whole c =
-    read_broken (broken-cut _ _ (sym c.is_whole.ensures ∙ not-true _ c.if-not-is_whole.true-raw)) c.no_params-then-not-is_whole.ensures
+    read_broken (broken-cut _ _ (sym c.is_whole.ensures ∙ c.if-not-is_whole.true)) c.no_params-then-not-is_whole.ensures
 
 pub returns : goal.returns
 returns c =

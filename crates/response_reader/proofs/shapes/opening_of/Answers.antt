@@ -3,7 +3,7 @@ use native.Mathlib.Omega.{arith}
 use mathlib.Core.Path.{sym, ◌∙◌}
 use Rattle.response_reader.proofs.OpeningLaws.{Headed, headed-is}
 use Rattle.response_reader.proofs.ShapeLaws.{unheaded_is}
-use Rattle.response_reader.proofs.SignedLaws.{alone_no, alone_yes, longer-than}
+use Rattle.response_reader.proofs.SignedLaws.{alone_opens, longer-than}
 use Rattle.response_reader.proofs.shapes.opening_of.Goals as goal
 use Rattle.response_reader.proofs.shapes.opening_of.Goals.{After-get16-status}
 
@@ -20,15 +20,11 @@ get16-tag-requires c = omega (arith, headed-is (sym c.is_headed.ensures ∙ c.if
 pub get16-status-requires : goal.get16-status-requires
 get16-status-requires c = omega (arith, headed-is (sym c.is_headed.ensures ∙ c.if-not-is_headed.false))
 
-pub returns-then-is_alone : goal.returns-then-is_alone
-returns-then-is_alone c =
-    alone_yes (start (goal.at.returns-then-is_alone c).After-get16-status) (c.type_inv.s 8).fits c.get16-status.ensures.value c.if-s-eq10.true c.get16-tag.ensures.value
-    c.is_alone.ensures c.if-is_alone.true
-
 pub returns-then-s-eq10 : goal.returns-then-s-eq10
 returns-then-s-eq10 c =
-    alone_no (start (goal.at.returns-then-s-eq10 c).After-get16-status) (c.type_inv.s 8).fits c.get16-status.ensures.value c.if-s-eq10.true c.get16-tag.ensures.value
-    c.is_alone.ensures c.if-is_alone.false
+    rw c.then_some.ensures
+    (alone_opens (start (goal.at.returns-then-s-eq10 c).After-get16-status) (c.type_inv.s 8).fits c.get16-status.ensures.value c.if-s-eq10.true c.get16-tag.ensures.value
+    c.is_alone.ensures)
 
 pub returns : goal.returns
 returns c =

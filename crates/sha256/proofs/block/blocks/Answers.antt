@@ -1,18 +1,19 @@
-use Rattle.std.proofs.Common.{◌≡◌, ◌-◌, ◌/◌, length, sym, ◌∙◌, arith, rules}
-use native.Mathlib.Nat.{sub-zero}
-use Rattle.model.specs.Sha256.{blocks}
-use Rattle.sha256.proofs.BlockLaws.{blocks-next}
+use Rattle.std.proofs.Common.{◌<◌, length, sym, ◌∙◌, rules}
+use Rattle.sha256.proofs.BlockLaws.{blocks-next, blocks_done}
 use Rattle.sha256.proofs.block.blocks.Goals as goal
 
-pub loop-at-init : goal.loop-at-init
-loop-at-init c = (search rules, rw sub-zero)
+pub loop-block-init : goal.loop-block-init
+loop-block-init c =
+    rw c.into_iter-block-iterator.ensures.into_iter_gives
+    (c.chunks_exact-block-items.ensures.size, rw c.chunks_exact-block-items.ensures.rest)
 
-pub compress-s-requires : goal.compress-s-requires
-compress-s-requires c = (search rules, c.requires)
-
-pub loop-at-preserved : goal.loop-at-preserved
-loop-at-preserved c = (search rules, c.loop-at.invariant.1 ∙ blocks-next c.args.m.now c.loop-at.at _ _ (omega arith) c.compress-s.ensures)
+pub loop-block-preserved : goal.loop-block-preserved
+loop-block-preserved c =
+    let n = c.in-Some.ensures.steps in
+    let inv = c.loop-block.invariant in
+    (n.0 ∙ inv.0, inv.1 ∙ blocks-next _ _ _ c.in-Some.block.now _ n.1.0 (n.1.1 ∙ inv.0) c.compress-s.ensures)
 
 pub returns : goal.returns
-unfolding blocks
-returns c = let e : (length c.args.m.now - c.loop-at.at) / 64 ≡ 0 = omega arith in sym (c.loop-at.invariant.1 ∙ rw e)
+returns c =
+    let few : length c.loop-block.block-iterator.rest.now < 64 = search rules in
+    sym (c.loop-block.invariant.1 ∙ blocks_done _ _ few)

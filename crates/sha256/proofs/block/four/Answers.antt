@@ -4,4 +4,4 @@ use Rattle.sha256.proofs.block.four.Goals as goal
 
 pub returns : goal.returns
 returns c =
-    four_steps _ _ _ _ _ _ _ _ c.requires.1 c.step_of-s1.ensures c.step_of-s2.ensures c.step_of-s3.ensures c.step_of.ensures
+    four_steps _ _ _ _ _ _ _ _ c.constants-k.ensures c.step_of-s1.ensures c.step_of-s2.ensures c.step_of-s3.ensures c.step_of.ensures

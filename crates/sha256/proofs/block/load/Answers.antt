@@ -8,7 +8,7 @@ unfolding words_of
 loop-n-init c = search rules
 
 pub loop-n-preserved : goal.loop-n-preserved
-loop-n-preserved c = (search rules, search rules, load-next _ _ _ _ (omega arith) c.loop-n.invariant.2 c.word_at.ensures)
+loop-n-preserved c = (search rules, load-next _ _ _ _ (omega arith) c.loop-n.invariant.1 c.word_at.ensures)
 
 pub returns : goal.returns
-returns c = let e : c.loop-n.n ≡ 16 = omega arith in rw e at c.loop-n.invariant.2
+returns c = let e : c.loop-n.n ≡ 16 = omega arith in rw e at c.loop-n.invariant.1

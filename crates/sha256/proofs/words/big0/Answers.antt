@@ -1,7 +1,7 @@
 -- Three rotations, joined as the definition joins them.
-use Rattle.model.specs.Sha256.{Σ0}
+use Rattle.model.specs.Sha256.{rotr, Σ0}
 use Rattle.sha256.proofs.words.big0.Goals as goal
 
 pub returns : goal.returns
-unfolding Σ0
+unfolding rotr Σ0
 returns c = cc

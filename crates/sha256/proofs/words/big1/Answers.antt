@@ -1,7 +1,7 @@
 -- Three rotations, joined as the definition joins them.
-use Rattle.model.specs.Sha256.{Σ1}
+use Rattle.model.specs.Sha256.{rotr, Σ1}
 use Rattle.sha256.proofs.words.big1.Goals as goal
 
 pub returns : goal.returns
-unfolding Σ1
+unfolding rotr Σ1
 returns c = cc

@@ -1,14 +1,11 @@
 -- All from i up to j stay: the first that goes has the same number, counted from j on.
 use mathlib.Core.Path.{◌≡◌}
-use Prim.Native.Nat.{◌+◌, ◌-◌, ◌≤◌}
-use lib.ListN.{length, drop}
+use Prim.Native.Nat.{◌+◌}
+use lib.ListN.{drop}
 use Rattle.stored_table.specs.Stored.{table_in}
 use Rattle.stored_table.specs.Changes.{stay_first}
 use Rattle.stored_table.proofs.left.next_going.Given as goal
 
 abbrev pub invariant-loop-j : goal.invariant-loop-j
 invariant-loop-j l =
-    (l.j ≤ length l.places) × (l.i + stay_first l.mixed l.key (drop l.i (table_in l.table)) ≡ l.j + stay_first l.mixed l.key (drop l.j (table_in l.table)))
-
-abbrev pub decreases-loop-j : goal.decreases-loop-j
-decreases-loop-j l = length l.places - l.j
+    l.i + stay_first l.mixed l.key (drop l.i (table_in l.table)) ≡ l.j + stay_first l.mixed l.key (drop l.j (table_in l.table))

@@ -7,12 +7,9 @@ pub put_bytes-end-requires : goal.put_bytes-end-requires
 put_bytes-end-requires c =
     omega (arith, room-more _ c.requires.table_value.0 c.requires.table_value.1 c.requires.table_value.2)
 
-pub put_record-requires : goal.put_record-requires
-put_record-requires c =
-    record {
-      key_id_len = c.requires.key_id_len;
-      name_in_bounds = omega (arith, room-more _ c.requires.table_value.0 c.requires.table_value.1 c.requires.table_value.2);
-    }
+pub put_record-requires-clause-name_in_bounds : goal.put_record-requires-clause-name_in_bounds
+put_record-requires-clause-name_in_bounds c =
+    omega (arith, room-more _ c.requires.table_value.0 c.requires.table_value.1 c.requires.table_value.2)
 
 pub returns : goal.returns
 returns c =

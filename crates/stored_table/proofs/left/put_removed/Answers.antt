@@ -1,39 +1,38 @@
-use mathlib.Core.Path.{refl, ap}
 use native.Mathlib.Omega.{arith}
-use lib.ListN.{length}
-use borrow.Author.Rules.{rules}
-use Rattle.tlv.proofs.WriteLaws.{same}
-use Rattle.stored_table.specs.Stored.{table_in}
-use Rattle.stored_table.proofs.IndexLaws.{length-places, few-places}
-use Rattle.stored_table.proofs.LeftLaws.{left_none, left-room, left-more, left-all, next-within}
+use Rattle.stored_table.proofs.IndexLaws.{record-at, place_is}
+use Rattle.stored_table.proofs.LeftLaws.{removing_none, removing-room, removing-stays, removing-goes, removing-all, end_is, stored_ends}
 use Rattle.stored_table.proofs.left.put_removed.Goals as goal
+use Rattle.stored_table.proofs.left.put_removed.Goals.{then-is_going, else-is_going}
 
 pub loop-i-init : goal.loop-i-init
-loop-i-init c = (refl, left_none _ _ _ (table_in c.args.table.now))
+loop-i-init c = removing_none _ _ c.requires.0 _
 
-pub loop-i-preserved : goal.loop-i-preserved
-loop-i-preserved c =
-    (search rules, left-more c.args.mixed.now c.args.key.now c.requires.0 c.loop-i.i c.loop-i.invariant.1 c.next_going-j.ensures (same c.stored_from.ensures refl c.put_bytes-end.ensures))
+pub is_going-requires : goal.is_going-requires
+is_going-requires c = (record-at c.requires.0 c.loop-i.i (omega arith)).stands
 
-pub next_going-j-requires : goal.next_going-j-requires
-next_going-j-requires c = (c.requires.0, omega arith)
-
-pub stored_from-requires : goal.stored_from-requires
-stored_from-requires c =
-    (c.requires.0, omega (arith, c.next_going-j.ensures))
+pub slice_bounds-put_bytes-end : goal.slice_bounds-put_bytes-end
+slice_bounds-put_bytes-end c =
+    omega (arith, place_is c.requires.0 c.loop-i.i (omega arith), stored_ends c.requires.0 c.loop-i.i)
 
 pub put_bytes-end-requires : goal.put_bytes-end-requires
 put_bytes-end-requires c =
-    let room = left-room c.args.mixed.now c.args.key.now c.requires.0 c.loop-i.i c.loop-i.invariant.1 {j = c.next_going-j.result} (omega (arith, c.next_going-j.ensures)) c.requires.1 in
-    omega (arith, room, c.loop-i.invariant.0, ap length c.stored_from.ensures)
+    omega (arith, removing-room _ _ c.requires.0 c.loop-i.invariant (place_is c.requires.0 c.loop-i.i c.loop-i-test.true), c.requires.1)
 
-pub overflow_add-i : goal.overflow_add-i
-overflow_add-i c =
-    omega (arith, c.next_going-j.ensures, few-places c.requires.0, next-within c.args.mixed.now c.args.key.now c.requires.0 c.loop-i.i (omega arith))
+pub loop-i-preserved : goal.loop-i-preserved
+loop-i-preserved c =
+    let x = c.requires.0 in
+    let h = c.loop-i-test.true in
+    elim c.if-is_going.branch [
+      | then-is_going w ↦
+          let goes = w.if-is_going.true in
+          rw (w.out-is, w.end-is, w.from-is)
+          (removing-goes _ _ x c.loop-i.invariant h c.is_going.ensures goes w.put_bytes-end.ensures w.start_of-from.ensures)
+      | else-is_going w ↦ rw (w.out-is, w.end-is, w.from-is) (removing-stays _ _ x c.loop-i.invariant h c.is_going.ensures w.if-is_going.false)
+    ]
 
-pub loop-i-smaller : goal.loop-i-smaller
-loop-i-smaller c = omega (arith, c.next_going-j.ensures)
+pub put_bytes-requires : goal.put_bytes-requires
+put_bytes-requires c =
+    omega (arith, removing-room _ _ c.requires.0 c.loop-i.invariant (end_is c.requires.0 c.loop-i.i c.loop-i-test.false), c.requires.1)
 
 pub returns : goal.returns
-returns c =
-    left-all _ _ (table_in c.args.table.now) c.loop-i.i (omega (arith, length-places c.requires.0)) c.loop-i.invariant.1
+returns c = removing-all _ _ c.requires.0 c.loop-i.invariant c.loop-i-test.false c.put_bytes.ensures

@@ -1,6 +1,4 @@
 -- The first len numbers are those of the records chosen before record i; no more than eight are, so there is room for each.
-use Prim.Native.Nat.{◌-◌}
-use lib.ListN.{length}
 use Rattle.tlv.specs.Rows.{rows}
 use Rattle.stored_table.specs.Stored.{table_in}
 use Rattle.stored_table.proofs.LookupLaws.{Choosing}
@@ -8,6 +6,3 @@ use Rattle.stored_table.proofs.lookups.choose.Given as goal
 
 abbrev pub invariant-loop-i : goal.invariant-loop-i
 invariant-loop-i l = Choosing l.mixed (rows 0 l.handles l.s) (table_in l.table) l.chosen l.len l.i
-
-abbrev pub decreases-loop-i : goal.decreases-loop-i
-decreases-loop-i l = length l.places - l.i

@@ -1,38 +1,31 @@
-use mathlib.Core.Path.{◌≡◌, sym, ◌∙◌}
-use mathlib.Core.Bool.{Bool, ◌||◌}
-use Prim.Native.Nat.{◌+◌}
-use native.Mathlib.Nat.{add-zero}
-use lib.ListN.{drop}
-use Rattle.model.specs.Lists.{among, empty}
-use Rattle.tlv.specs.Rows.{row, rows}
-use Rattle.stored_table.proofs.LookupLaws.{given_none, given_some, given_at, given-end}
+use mathlib.Core.Path.{sym, ◌∙◌}
+use borrow.Author.Rules.{rules}
+use borrow.Author.Tests.{tests}
+use Rattle.std.proofs.lemmas.Iterator.{YieldsList-from_slice}
+use Rattle.std.proofs.lemmas.Iterator.Adapters.{serves_from_places}
+use Rattle.std.proofs.lemmas.Iterator.Search.{any_from_yields_List}
+use Rattle.std.proofs.lemmas.List.{get_or_read}
+use Rattle.model.specs.Lists.{eq_bytes}
+use Rattle.tlv.specs.Rows.{row}
+use Rattle.stored_table.proofs.LookupLaws.{given_any}
 use Rattle.stored_table.proofs.lookups.is_given.Goals as goal
-use Rattle.stored_table.proofs.lookups.is_given.Goals.{After-same_row}
 
-pub returns-then-handles-eq0 : goal.returns-then-handles-eq0
-returns-then-handles-eq0 c = sym (given_none _ _ _ c.if-handles-eq0.true)
+pub any-requires-clause-callable : goal.any-requires-clause-callable
+any-requires-clause-callable c =
+    let hs = c.args.handles.now in
+    serves_from_places (YieldsList-from_slice hs cc) (λ x q h. search rules)
+    (λ x k h e. let here = get_or_read hs k x.now h e 0 in let inside = c.requires.within.each k h in search rules)
 
-pub loop-j-init : goal.loop-j-init
-loop-j-init c = given_some _ _ _ c.if-handles-eq0.false
+pub returns-then-is_empty : goal.returns-then-is_empty
+returns-then-is_empty c =
+    let a = c.args in
+    sym (given_any (row a.place a.table.now) a.s.now a.handles.now ∙ rw (← c.is_empty.ensures, c.if-is_empty.true))
 
-pub same_row-requires : goal.same_row-requires
-same_row-requires c =
-    let p = c.requires in
-    (p.place_in_bounds, rw add-zero at (p.within.each _ c.loop-j-test.true))
-
--- at the handle at hand, where b is what its test gave
-at-handle : (c : After-same_row) {b : Bool} → c.same_row.result ≡ b → let a = c.args in
-    let hs = rows 0 a.handles.now a.s.now in
+pub returns-else-is_empty : goal.returns-else-is_empty
+returns-else-is_empty c =
+    let a = c.args in
     let key = row a.place a.table.now in
-    (empty hs || among key hs) ≡ (b || among key (drop (c.loop-j.j + 1) hs))
-at-handle c e =
-    c.loop-j.invariant ∙ given_at _ _ _ c.loop-j.j c.loop-j-test.true (sym e ∙ c.same_row.ensures)
-
-pub returns-then-same_row : goal.returns-then-same_row
-returns-then-same_row c = sym (at-handle (goal.at.returns-then-same_row c).After-same_row c.if-same_row.true)
-
-pub loop-j-preserved : goal.loop-j-preserved
-loop-j-preserved c = at-handle (goal.at.loop-j-preserved c).After-same_row c.if-same_row.false
-
-pub returns : goal.returns
-returns c = sym (c.loop-j.invariant ∙ given-end _ _ _ c.loop-j.j c.loop-j-test.false)
+    let found =
+    any_from_yields_List (λ h. eq_bytes key (row h a.s.now)) _ _ c.any.result c.any.ensures.ran (YieldsList-from_slice a.handles.now cc)
+    (λ x b q k. search (rules, tests)) in
+    found ∙ sym (given_any key a.s.now a.handles.now ∙ rw (← c.is_empty.ensures, c.if-is_empty.false))

@@ -8,8 +8,8 @@ use Rattle.tlv.proofs.reader.+well_formed.Given as goal
 abbrev pub decreases-well_formed : goal.decreases-well_formed
 decreases-well_formed l = l.levels
 
-abbrev pub invariant-loop-tag : goal.invariant-loop-tag
-invariant-loop-tag l = (l.at ≤ length l.s) × (well_formed l.levels l.s ≡ is_run (all (inner l.levels)) (tlvs (drop l.at l.s)))
+abbrev pub invariant-loop-at : goal.invariant-loop-at
+invariant-loop-at l = (l.at ≤ length l.s) × (well_formed l.levels l.s ≡ is_run (all (inner l.levels)) (tlvs (drop l.at l.s)))
 
-abbrev pub decreases-loop-tag : goal.decreases-loop-tag
-decreases-loop-tag l = length l.s - l.at
+abbrev pub decreases-loop-at : goal.decreases-loop-at
+decreases-loop-at l = length l.s - l.at

@@ -1,22 +1,23 @@
-use native.Mathlib.Omega.{arith}
+-- The mark at hand counts if it is x; behind the last there is none.
+use Rattle.std.proofs.Common.{arith}
 use borrow.Author.Tests.{eq-eqb, ne_eqb}
 use Rattle.tlv.proofs.RowLaws.{alike_end, alike_at}
 use Rattle.tlv.proofs.rows.alike_in.Goals as goal
-use Rattle.tlv.proofs.rows.alike_in.Goals.{then-marks-i, else-marks-i}
+use Rattle.tlv.proofs.rows.alike_in.Goals.{then-m-x, else-m-x}
 
-pub loop-i-preserved : goal.loop-i-preserved
-loop-i-preserved c =
+pub loop-m-preserved : goal.loop-m-preserved
+loop-m-preserved c =
     let a = c.args in
-    elim c.if-marks-i.branch [
-      | then-marks-i w ↦
-          let e = alike_at a.x a.marks.now _ c.loop-i-test.true (eq-eqb _ _ w.if-marks-i.true) in
-          (omega (arith, c.loop-i.invariant, w.k-is), omega (arith, e, c.loop-i.invariant, w.k-is))
-      | else-marks-i w ↦
-          let e = alike_at a.x a.marks.now _ c.loop-i-test.true (ne_eqb _ _ w.if-marks-i.false) in
-          (omega (arith, c.loop-i.invariant, w.k-is), omega (arith, e, c.loop-i.invariant, w.k-is))
+    elim c.if-m-x.branch [
+      | then-m-x w ↦
+          let e = alike_at a.x a.marks.now _ c.loop-m-test.true (eq-eqb _ _ w.if-m-x.true) in
+          (omega (arith, c.loop-m.invariant, w.k-is), omega (arith, e, c.loop-m.invariant, w.k-is))
+      | else-m-x w ↦
+          let e = alike_at a.x a.marks.now _ c.loop-m-test.true (ne_eqb _ _ w.if-m-x.false) in
+          (omega (arith, c.loop-m.invariant, w.k-is), omega (arith, e, c.loop-m.invariant, w.k-is))
     ]
 
 pub returns : goal.returns
 returns c =
     let a = c.args in
-    omega (arith, c.loop-i.invariant, alike_end a.x a.marks.now _ c.loop-i-test.false)
+    omega (arith, c.loop-m.invariant, alike_end a.x a.marks.now _ c.loop-m-test.false)

@@ -1,7 +1,0 @@
--- Where the mark is not 1 nothing is written.
-use native.Mathlib.Omega.{arith}
-use Rattle.command_writer.proofs.PartLaws.{wrote-not-given}
-use Rattle.command_writer.proofs.parts.put_marked.Goals as goal
-
-pub returns : goal.returns
-returns c = wrote-not-given _ _ (λ e. omega arith) c.requires

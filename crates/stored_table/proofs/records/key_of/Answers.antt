@@ -1,8 +1,0 @@
--- The part from the KeyID's place on, as long as it is.
-use native.Mathlib.Nat.{add-sub_cancel_left}
-use Rattle.stored_table.specs.Stored.{record_at}
-use Rattle.stored_table.proofs.records.key_of.Goals as goal
-
-pub returns : goal.returns
-unfolding record_at
-returns c = rw add-sub_cancel_left
