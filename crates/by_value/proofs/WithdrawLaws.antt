@@ -7,6 +7,8 @@ use mathlib.Core.List.{List}
 use mathlib.Core.Option.{none, some}
 use Prim.Native.Nat.{ℕ, ◌≤◌}
 use lib.ListN.{length, take}
+use Rattle.std.specs.Prelude.{Ok, Err}
+use Rattle.std.specs.Prelude as std
 use Rattle.model.specs.Records as model
 use Rattle.model.specs.Records.{max_stored, table_ok, encode, decode}
 use Rattle.model.specs.Commands.{Given, value, stored, table_of, Result, refused, gave, on_gave}
@@ -16,15 +18,13 @@ use Rattle.model.specs.Withdrawals.{Withdrawal, withdraw_refusals, withdraw}
 use Rattle.model.proofs.Basics.{impossible}
 use Rattle.model.proofs.Kept.{withdraw_kept}
 use Rattle.fields.specs.Refusals.{said, length_of, Ended, ended, ends}
-use Rattle.fields.specs.declared.refusals.Written.{Written}
-use Rattle.fields.specs.declared.refusals.Written.TheVariants.{Refused, Wrote}
+use Rattle.fields.specs.declared.refusals.Refusal.{Refusal}
 use Rattle.authenticator.specs.Withdrawing.{withdrawal}
 use Rattle.key_table.specs.Forms.{FormIs, loading}
-use Rattle.key_table.specs.Views.{view_table}
+use Rattle.key_table.specs.Views.{view_table, table_value}
 use Rattle.key_table.specs.declared.records.Table.{Table}
-use Rattle.key_table.specs.declared.forms.Loaded.{Loaded}
 use Rattle.by_value.specs.Runs.{table_left}
-use Rattle.by_value.specs.Withdrew.{withdrew}
+use Rattle.by_value.specs.Withdrew as withdrew
 use Rattle.by_value.proofs.LeftLaws.{written-fits, read_again, value-view}
 
 -- ---- a result, by what is said of it
@@ -33,10 +33,10 @@ refused-is : (q : Result model.Table) {n : ℕ} → refused n ≡ length_of (on_
 refused-is (refused i) e = cc
 refused-is (gave u) e = impossible cc
 
-record Left (q : Result model.Table) (n : ℕ) : Type 0 where
-  table : model.Table
-  is : q ≡ gave table
-  size : n ≡ length (encode table)
+pub record Left (q : Result model.Table) (n : ℕ) : Type 0 where
+  pub table : model.Table
+  pub is : q ≡ gave table
+  pub size : n ≡ length (encode table)
 
 left_of : (q : Result model.Table) {n : ℕ} → gave n ≡ length_of (on_gave encode q) → Left q n
 left_of (refused i) e = impossible cc
@@ -45,7 +45,7 @@ left_of (gave u) e = record { table = u; is = refl; size = cc }
 -- ---- a withdrawal
 
 -- a withdrawal said x and left its output so, where it was lent with these bytes
-pub record Withdrawn (w : Withdrawal) (g : Given) (x : Written) (left' : List ℕ) : Type 0 where
+pub record Withdrawn (w : Withdrawal) (g : Given) (x : std.Result ℕ Refusal) (left' : List ℕ) : Type 0 where
   pub lent : List ℕ
   pub result : said x ≡ length_of (on_gave encode (withdraw w g))
   pub after : left' ≡ output_of (on_gave encode (withdraw w g)) lent
@@ -57,7 +57,7 @@ unfolding withdraw withdraw_refusals table_of
 same-withdrawal m k t form e = rw e
 
 -- the withdrawal on the form that a table was put into
-pub withdrawn : {m k : List ℕ} {t : model.Table} {form : List ℕ} {n : ℕ} {x : Written} {left' : List ℕ} (lent : List ℕ) → FormIs t form n
+pub withdrawn : {m k : List ℕ} {t : model.Table} {form : List ℕ} {n : ℕ} {x : std.Result ℕ Refusal} {left' : List ℕ} (lent : List ℕ) → FormIs t form n
     → ended x left' ≡ ends (on_gave encode (withdraw (withdrawal m k (some max_stored)) (stored (take n form)))) lent
     → Withdrawn (withdrawal m k none) (value t) x left'
 unfolding ends
@@ -69,14 +69,14 @@ withdrawn {m} {k} {t} {form} {n} lent f p =
       after = ap (λ (y : Ended). y.output) p ∙ ap (λ (o : Result (List ℕ)). output_of o lent) e;
     }
 
-module _ {w : Withdrawal} {g : Given} {x : Written} {left' : List ℕ} (p : Withdrawn w g x left') where
+module _ {w : Withdrawal} {g : Given} {x : std.Result ℕ Refusal} {left' : List ℕ} (p : Withdrawn w g x left') where
   -- after a refusal the table is the one that came
-  pub withdrew_none : (t : Table) {n : ℕ} → x ≡ Refused n → record { refusal = n; table = t } ≡ withdrew (withdraw w g) t
+  pub withdrew_none : (t : Table) {r : Refusal} → x ≡ Err r → withdrew.ended (record { done = Err r; table = t }) ≡ withdrew.ends (withdraw w g) t
   withdrew_none t e = rw (refused-is (withdraw w g) (sym (ap said e) ∙ p.result))
 
   -- else it is the one that is read again from its stored form
-  module _ {n : ℕ} (e : x ≡ Wrote n) where
-    left : Left (withdraw w g) n
+  module _ {n : ℕ} (e : x ≡ Ok n) where
+    pub left : Left (withdraw w g) n
     left = left_of (withdraw w g) (sym (ap said e) ∙ p.result)
 
     left-ok : table_ok left.table ≡ true
@@ -85,11 +85,16 @@ module _ {w : Withdrawal} {g : Given} {x : Written} {left' : List ℕ} (p : With
     pub left-fits : n ≤ max_stored
     left-fits = written-fits left.table left-ok left.size
 
-    pub withdrew-one : (t : Table) {r : Loaded} → r ≡ loading (decode (take n left')) → record { refusal = 0; table = r.table } ≡ withdrew (withdraw w g) t
+    -- what is read again is a table
+    pub left-loads : loading (decode (take n left')) ≡ Ok (table_value left.table)
     unfolding loading
-    withdrew-one t q =
-        let again = read_again left.table left-ok left.size p.lent (p.after ∙ rw left.is) in
-        rw (q, again, left.is)
+    left-loads = rw (read_again left.table left-ok left.size p.lent (p.after ∙ rw left.is))
+
+    pub withdrew-one : (t : Table) {r : Table} → Ok r ≡ loading (decode (take n left'))
+        → withdrew.ended (record { done = Ok tt; table = r }) ≡ withdrew.ends (withdraw w g) t
+    withdrew-one t {r} q =
+        let v : r ≡ table_value left.table = let ok : Ok r ≡ Ok (table_value left.table) = q ∙ left-loads in cc in
+        rw (v, left.is)
 
 -- ---- the table handed back
 

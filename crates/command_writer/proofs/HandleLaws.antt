@@ -4,7 +4,7 @@ use mathlib.Core.Path.{◌≡◌, refl, ap, ◌∙◌}
 use mathlib.Core.Bool.{Bool, true, ◌&&◌}
 use mathlib.Core.List.{List, [], ◌∷◌, ◌++◌, map}
 use mathlib.Core.Option.{none, some}
-use Prim.Native.Nat.{ℕ, zero, suc, ◌+◌, ◌*◌, ◌-◌, ◌≤◌, ◌<◌}
+use Prim.Native.Nat.{ℕ, zero, suc, ◌+◌, ◌*◌, ◌/◌, ◌-◌, ◌≤◌, ◌<◌}
 use native.Mathlib.Omega.{arith}
 use lib.ListN.{length, take, drop, length-append, length-map, length-drop}
 use lib.Seq.{length-take-le, drop-drop}
@@ -118,7 +118,7 @@ module _ (ns s : List ℕ) (w : whole ns ≡ true) (l : length s ≡ 32 * length
 -- ---- one handle after another
 
 -- the part from 32 n up to 32 bytes on
-module _ (n k : ℕ) (s : List ℕ) (h : n < k) (l : length s ≡ 32 * k) where
+module _ (n : ℕ) (s : List ℕ) (h : n < length s / 32) where
   pub handle_part : take (32 * n + 32 - 32 * n) (drop (32 * n) s) ≡ take 32 (drop (32 * n) s)
   handle_part = let e : 32 * n + 32 - 32 * n ≡ 32 = omega arith in rw e
 

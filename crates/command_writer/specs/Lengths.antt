@@ -1,7 +1,7 @@
 -- How many bytes a field takes in a command, and the refusal by their sum.
 use Rattle.std.specs.Prelude.{◌≡◌, ℕ, suc, ◌+◌, ◌≤◌, cond, List, [], ◌∷◌, length, ltb, Result, Ok, Err}
-use Rattle.model.specs.Tlv.{Tlv, bytes, max_command, Listed, Kind, fields_of}
-use Rattle.model.specs.Writer.{Values, tlvs_for, values_ok, command, command_of}
+use Rattle.model.specs.Tlv.{Tlv, bytes, max_command, Listed, fields_of}
+use Rattle.model.specs.Writer.{Values, tlvs_for, values_ok, Wanted, wanted_kind, wanted_values, command, command_of}
 use Rattle.fields.specs.declared.refusals.Refusal.{Refusal}
 use Rattle.fields.specs.declared.refusals.Refusal.TheVariants.{ShortOutput, BadField}
 
@@ -21,10 +21,10 @@ takes_all (f ∷ fs) [] = too_long
 takes_all (f ∷ fs) (vs ∷ vss) = takes f vs + takes_all fs vss
 
 -- a sum n of what the fields take, for a command that has so many bytes and these children where it is not too long
-pub record Counts (k : Kind) (vss : List Values) (n size : ℕ) (ts : List Tlv) : Type 0 where
-  pub total : n ≡ 4 + takes_all (fields_of k) vss
+pub record Counts (w : Wanted) (n size : ℕ) (ts : List Tlv) : Type 0 where
+  pub total : n ≡ 4 + takes_all (fields_of (wanted_kind w)) (wanted_values w)
   pub sizes : n ≤ max_command → n ≡ size
-  pub children : n ≤ max_command → command_of k vss ≡ command k ts
+  pub children : n ≤ max_command → command_of (wanted_kind w) (wanted_values w) ≡ command (wanted_kind w) ts
 
 -- by a command's length and the output's: 6, then 1
 unfoldable pub check_len : ℕ → ℕ → Result (Unit {0}) Refusal

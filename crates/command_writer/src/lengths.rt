@@ -12,8 +12,10 @@ use fields::refusals::Refusal;
 use params::kinds::slot_fits;
 use params::parse::MOST_HANDLES;
 
-// A header, and a header with a number of 16 bits.
-const HEADER: usize = 4;
+// A header; with it an index, which is all that Open settings has; and a header with a number of 16 bits.
+pub const HEADER: usize = 4;
+
+pub const HEADER_AND_INDEX: usize = 9;
 
 const HEADER_AND_16_BITS: usize = 6;
 

@@ -24,7 +24,7 @@ pub struct Marked<'a> {
 impl<'a> Marked<'a> {
     // How many bytes it takes, for the field of a slot.
     #[tactic(auto, using(crate::proofs::LengthLaws::by_mark))]
-    pub fn len(&self, slot: usize) -> usize
+    pub(crate) fn len(&self, slot: usize) -> usize
         ensures { (result ≡ takes (optional (slot_field slot)) (marked self.now.mark self.now.value.now)) × (result ≤ 8196) }
     {
         match self.mark {
@@ -36,7 +36,7 @@ impl<'a> Marked<'a> {
 
     // Writes it, if it is given.
     #[tactic(auto, using(crate::proofs::PartLaws::marked_written))]
-    pub fn put(&self, out: &mut [u8], at: usize, tag: usize) -> usize
+    pub(crate) fn put(&self, out: &mut [u8], at: usize, tag: usize) -> usize
         requires { at + given_size self.now.mark (length self.now.value.now) ≤ length out.old }
         ensures { Wrote out.old at (bytes (given_tlvs tag self.now.mark self.now.value.now))
             (given_size self.now.mark (length self.now.value.now)) out.new result }

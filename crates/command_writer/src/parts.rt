@@ -1,13 +1,24 @@
 // The parts of a command that more than one writer has, or that are written in a loop.
-ghost use Rattle.std.specs.Prelude.{◌≡◌, ◌+◌, ◌*◌, ◌-◌, ◌≤◌, ◌++◌, length};
-ghost use Rattle.model.specs.Tlv.{header, bytes};
+ghost use Rattle.std.specs.Prelude.{◌≡◌, ◌+◌, ◌*◌, ◌/◌, ◌-◌, ◌≤◌, ◌++◌, length};
+ghost use Rattle.model.specs.Tlv as tlvs;
+ghost use Rattle.model.specs.Tlv.{header, bytes, optional};
+ghost use Rattle.model.specs.Writer.{marked};
 ghost use Rattle.tlv.specs.Writing.{Wrote};
+ghost use Rattle.command_writer.specs.Lengths.{takes};
 ghost use Rattle.command_writer.specs.Parts.{given_size, handle_tlvs, opening};
 
-use crate::lengths::HANDLE;
+use crate::lengths::{HANDLE, HEADER_AND_INDEX};
 use crate::marked::Marked;
 use fields::tags;
+use params::kinds;
 use tlv::writer::{put_header, put_tlv};
+
+// How many bytes header, index and AppID take.
+pub fn opening_len(app_id: &Marked) -> usize
+    ensures { (result ≡ 9 + takes (optional tlvs.app_id) (marked app_id.now.mark app_id.now.value.now)) × (result ≤ 8205) }
+{
+    HEADER_AND_INDEX + app_id.len(kinds::APP_ID)
+}
 
 // What Register, Sign and Deregister begin with: the header of a command of len bytes, the index and, if it is given, the AppID.
 pub fn put_opening(out: &mut [u8], tag: usize, len: usize, app_id: &Marked) -> usize
@@ -21,12 +32,12 @@ pub fn put_opening(out: &mut [u8], tag: usize, len: usize, app_id: &Marked) -> u
 }
 
 // Key handles that run together, a TLV for each.
-pub fn put_handles(out: &mut [u8], at: usize, handles: &[u8], count: usize) -> usize
-    requires { (length handles.now ≡ 32 * count) × (at + 36 * count ≤ length out.old) }
-    ensures { Wrote out.old at (bytes (handle_tlvs count handles.now)) (36 * count) out.new result }
+pub fn put_handles(out: &mut [u8], at: usize, handles: &[u8]) -> usize
+    requires { at + 36 * (length handles.now / 32) ≤ length out.old }
+    ensures { Wrote out.old at (bytes (handle_tlvs (length handles.now / 32) handles.now)) (36 * (length handles.now / 32)) out.new result }
 {
     let mut end = at;
-    for i in 0..count {
+    for i in 0..handles.len() / HANDLE {
         let start = HANDLE * i;
         end = put_tlv(out, end, tags::KEYHANDLE, &handles[start..start + HANDLE]);
     }

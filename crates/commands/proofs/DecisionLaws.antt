@@ -14,8 +14,8 @@ use Rattle.model.specs.Tlv.{Kind, get_info, register, deregister, open_settings,
 use Rattle.model.specs.Records as records
 use Rattle.model.specs.Records.{own, key_ids, max_own, max_records}
 use Rattle.model.specs.Commands as model
-use Rattle.model.specs.Commands.{Lent, Check, check, judge, only, keep, add, response, draft, info_response, register_checks, register_draft, deregister_checks, decide_get_info, decide_register, decide_deregister, decide_open_settings, decide}
-use Rattle.model.proofs.Basics.{Passed, judged, judge-map, or_right, impossible}
+use Rattle.model.specs.Commands.{Lent, Result, refused, gave, Check, check, judge, only, keep, add, response, draft, info_response, register_checks, register_draft, deregister_checks, decide_get_info, decide_register, decide_deregister, decide_open_settings, decide}
+use Rattle.model.proofs.Basics.{Passed, judged, passes, judge-map, or_right, impossible}
 use Rattle.model.proofs.Fields.{field_fits}
 use Rattle.model.proofs.LayoutLaws.{fits-most}
 use Rattle.tlv.specs.Heads.{part}
@@ -30,25 +30,24 @@ use Rattle.stored_table.specs.declared.left.Change.TheVariants.{Keep, Add, Remov
 use Rattle.replies.specs.Replies.{answer_of, Quoted, SoundShape, Sound}
 use Rattle.replies.specs.declared.reply.Shape.{Shape}
 use Rattle.replies.specs.declared.reply.Shape.TheVariants.{Status, Registration}
-use Rattle.commands.specs.Decisions.{decision, decision_of, Decides, DecidesAlways}
-use Rattle.commands.specs.declared.decision.Judged.{Judged}
-use Rattle.commands.specs.declared.decision.Judged.TheVariants.{Fails, Passes}
+use Rattle.commands.specs.Decisions.{decision, passed, decision_of, Decides, DecidesAlways}
 
 -- ---- the first check that fails
 
--- what becomes of the code's judgment
-abbrev pub outcome : {A : Type 0} → (ℕ → A) → A → Judged → A
-outcome says passed (Fails n) = says n
-outcome says passed Passes = passed
+-- what becomes of what checks gave
+abbrev outcome : {A B : Type 0} → (ℕ → A) → A → Result B → A
+outcome says all (refused n) = says n
+outcome says all (gave v) = all
 
--- a judgment by the same checks
-pub judge-is : (cs : List Check) {A : Type 0} (says : ℕ → A) (passed : A) {j : Judged} → j ≡ judge cs Fails Passes
-    → judge cs says passed ≡ outcome says passed j
-judge-is cs says passed e = sym (ap (outcome says passed) e ∙ judge-map (outcome says passed) cs Fails Passes)
+-- by one judgment that one fails, it is the first in every other
+pub judge_failed : (cs : List Check) {A B : Type 0} (says : ℕ → A) (all : A) {n : ℕ} (v : B) → refused n ≡ judge cs refused (gave v)
+    → judge cs says all ≡ says n
+unfolding judge
+judge_failed cs says all {n} v e = sym (ap (outcome says all) e ∙ judge-map (outcome says all) cs refused (gave v))
 
--- where none fails, each passes
-pub judge_passed : (cs : List Check) {j : Judged} → j ≡ judge cs Fails Passes → j ≡ Passes → Passed cs
-judge_passed cs e o = judged (λ (j : Judged). j ≡ Passes → Passed cs) cs Fails Passes (λ n f. impossible cc) (λ p f. p) (sym e ∙ o)
+-- by one judgment that none fails, each passes
+pub judge_passed : (cs : List Check) {B : Type 0} {u : B} (v : B) → gave u ≡ judge cs refused (gave v) → Passed cs
+judge_passed cs {u = u} v e = judged (λ r. gave u ≡ r → Passed cs) cs refused (gave v) (λ n f. impossible cc) (λ p f. p) e
 
 -- ---- a command by its checks
 
@@ -64,23 +63,31 @@ pub record Checked (k : Kind) (s : List ℕ) (n : Numbers) (m key : List ℕ) (t
       decide k s l (own m t) (among key (key_ids t)) (leb max_records (length t)) ≡ judge cs (only k keep) (v l)
 
 module _ {k : Kind} {s : List ℕ} {n : Numbers} {m key : List ℕ} {t : records.Table} {cs : List Check} {v : Lent → model.Decision}
-    (h : Checked k s n m key t cs v) {j : Judged} (e : j ≡ judge cs Fails Passes) where
-  pub decided : (aaid metadata public_key nonce : List ℕ)
-      → let l = lent_of aaid n metadata key public_key nonce in
-      decide k s l (own m t) (among key (key_ids t)) (leb max_records (length t)) ≡ outcome (only k keep) (v l) j
-  decided a d p x = h.by a d p x ∙ judge-is cs (only k keep) _ e
-
+    (h : Checked k s n m key t cs v) where
   -- one fails
-  pub fails : {c : Params} {chosen : List ℕ} {i : ℕ} → j ≡ Fails i → Decides k s n m key t c chosen (decision (Status i) 0 Keep)
+  pub fails : {c : Params} {chosen : List ℕ} {i : ℕ} → refused i ≡ judge cs refused passed
+      → Decides k s n m key t c chosen (decision (Status i) 0 Keep)
   unfolding answer_of only
-  fails {i = i} o =
-      record { is = λ a d p x. sym (decided a d p x ∙ rw o); within = omega arith; sound = plain-sound (Status i) tt; can = tt }
+  fails {i = i} e =
+      record {
+        is = λ a d p x. sym (h.by a d p x ∙ judge_failed cs (only k keep) _ tt e);
+        within = omega arith;
+        sound = plain-sound (Status i) tt;
+        can = tt;
+      }
 
-  -- all pass, and no record is named
-  pub passes : {c : Params} {chosen : List ℕ} {x : Shape} {w : Change} → j ≡ Passes
-      → ((l : Lent) → decision_of k s l t [] (decision x 0 w) ≡ v l) → SoundShape k s t c x → Can s key m t w → Decides k s n m key t c chosen (decision x 0 w)
-  passes {x = x} o f q r =
-      record { is = λ a d p y. f _ ∙ sym (decided a d p y ∙ rw o); within = omega arith; sound = plain-sound x q; can = r }
+  module _ (e : passed ≡ judge cs refused passed) where
+    pub by_passing : (aaid metadata public_key nonce : List ℕ)
+        → let l = lent_of aaid n metadata key public_key nonce in
+        decide k s l (own m t) (among key (key_ids t)) (leb max_records (length t)) ≡ v l
+    by_passing a d p x = h.by a d p x ∙ passes cs (only k keep) _ (judge_passed cs tt e)
+
+    -- all pass, and no record is named
+    pub names_none : {c : Params} {chosen : List ℕ} {x : Shape} {w : Change}
+        → ((l : Lent) → decision_of k s l t [] (decision x 0 w) ≡ v l) → SoundShape k s t c x → Can s key m t w
+        → Decides k s n m key t c chosen (decision x 0 w)
+    names_none {x = x} f q r =
+        record { is = λ a d p y. f _ ∙ sym (by_passing a d p y); within = omega arith; sound = plain-sound x q; can = r }
 
 -- ---- the fields of a command that breaks no rule
 
@@ -112,14 +119,15 @@ module _ {k : Kind} {v : Lent → model.Decision}
     (h : (s : List ℕ) (n : Numbers) (m key : List ℕ) (t : records.Table) → Checked k s n m key t (breaks k s) v) {p : Params} where
   pub always-broken : p.broken ≡ true → DecidesAlways k p (decision (Status 0x08) 0 Keep)
   unfolding judge
-  always-broken b = record { always = λ s n m key t chosen q. fails (h s n m key t) (rw (← q.broken-is, b)) refl }
+  always-broken b =
+      record { always = λ s n m key t chosen q. fails (h s n m key t) (rw (← q.broken-is, b)) }
 
   pub always-given : {x : Shape} → p.broken ≡ false
       → ((s : List ℕ) (l : Lent) (t : records.Table) → decision_of k s l t [] (decision x 0 Keep) ≡ v l)
       → ((s : List ℕ) (t : records.Table) (c : Params) → SoundShape k s t c x) → DecidesAlways k p (decision x 0 Keep)
   unfolding judge
   always-given b f g =
-      record { always = λ s n m key t chosen q. passes (h s n m key t) (rw (← q.broken-is, b)) refl (λ l. f s l t) (g s t _) tt }
+      record { always = λ s n m key t chosen q. names_none (h s n m key t) (rw (← q.broken-is, b)) (λ l. f s l t) (g s t _) tt }
 
 -- ---- Register
 
@@ -134,12 +142,11 @@ module _ (s : List ℕ) (n : Numbers) (m key : List ℕ) (t : records.Table) whe
   unfolding decide decide_register register_checks
   register_checked = record { by = λ a d p x. refl }
 
-  module _ {p : Params} (q : ParamsRead register s p) {j : Judged} (e : j ≡ judge (register_list s n m key t) Fails Passes)
-      (o : j ≡ Passes) where
+  module _ {p : Params} (q : ParamsRead register s p) (e : passed ≡ judge (register_list s n m key t) refused passed) where
     register-passed : (broken register s ≡ false) × (leb max_records (length t) ≡ false)
     unfolding register_checks
     register-passed =
-        let h = judge_passed (register_list s n m key t) e o in
+        let h = judge_passed (register_list s n m key t) tt e in
         (h.0, or_right (leb max_own (length (own m t))) _ h.1.1.1.1.0)
 
     -- a record more with the command's name
@@ -149,7 +156,7 @@ module _ (s : List ℕ) (n : Numbers) (m key : List ℕ) (t : records.Table) whe
     registered g h =
         let b = register-passed.0 in
         let f = q.unless_broken b in
-        passes register_checked e o (λ l. rw f.username.value)
+        names_none register_checked e (λ l. rw f.username.value)
         (refl, quoted_placed register b refl f)
         (record {
           inside = f.username.inside;
@@ -168,10 +175,9 @@ module _ (s : List ℕ) (n : Numbers) (m key : List ℕ) (t : records.Table) whe
   deregister_checked = record { by = λ a d p x. refl }
 
   -- what is removed is told by the command's KeyID
-  pub deregistered : {p : Params} {c : Params} {chosen : List ℕ} {j : Judged} → ParamsRead deregister s p
-      → j ≡ judge (deregister_checks s (own m t)) Fails Passes → j ≡ Passes
+  pub deregistered : {p : Params} {c : Params} {chosen : List ℕ} → ParamsRead deregister s p → passed ≡ judge (deregister_checks s (own m t)) refused passed
       → Decides deregister s n m key t c chosen (decision (Status 0x00) 0 (Remove p.key_id))
   unfolding answer_of only
-  deregistered q e o =
-      let k = (q.unless_broken (judge_passed (deregister_checks s (own m t)) e o).0).key-id in
-      passes deregister_checked e o (λ l. rw k.value) tt k.inside
+  deregistered q e =
+      let k = (q.unless_broken (judge_passed (deregister_checks s (own m t)) tt e).0).key-id in
+      names_none deregister_checked e (λ l. rw k.value) tt k.inside

@@ -3,7 +3,7 @@
 use mathlib.Core.Path.{◌≡◌, refl, sym, ap, ◌∙◌}
 use mathlib.Core.Bool.{Bool, true, false}
 use mathlib.Core.List.{List, [], ◌∷◌}
-use Prim.Native.Nat.{ℕ, suc, ◌+◌, ◌≤◌, ◌<◌}
+use Prim.Native.Nat.{ℕ, ◌+◌, ◌≤◌, ◌<◌}
 use native.Mathlib.Nat.{pos_of_ne-zero}
 use native.Mathlib.Numerals.{add-one}
 use native.Mathlib.Omega.{arith}
@@ -13,8 +13,8 @@ use Rattle.model.specs.Lists.{first}
 use Rattle.model.specs.Tlv.{sign, key_handle, broken, fields_in}
 use Rattle.model.specs.Records as records
 use Rattle.model.specs.Records.{own, has_mixed, table_ok}
-use Rattle.model.specs.Commands.{Lent, judge, only, keep, set_count, draft, user_checks, one_checks, has_content, sign_draft, sign_one, chosen, sign_chosen, decide_sign, decide}
-use Rattle.model.proofs.Basics.{and_left, first_passes}
+use Rattle.model.specs.Commands.{Lent, refused, gave, judge, only, keep, user_checks, one_checks, has_content, sign_one, chosen, sign_chosen, decide_sign, decide}
+use Rattle.model.proofs.Basics.{and_left, first_passes, passes}
 use Rattle.model.proofs.EdgesSign.{several_listed}
 use Rattle.tlv.specs.Rows.{rows}
 use Rattle.params.specs.Lent.{lent_of}
@@ -30,37 +30,41 @@ use Rattle.stored_table.proofs.LookupLaws.{chosen_is, chosen-records, chosen_of}
 use Rattle.replies.specs.Replies.{answer_of, Quoted}
 use Rattle.replies.specs.declared.reply.Shape.TheVariants.{Status, Names, Signed}
 use Rattle.replies.proofs.ReplyLaws.{sign-draft}
-use Rattle.commands.specs.Decisions.{decision, Decides, DecidesOne}
+use Rattle.commands.specs.Decisions.{decision, passed, Decides, DecidesOne}
 use Rattle.commands.specs.declared.decision.Decision.{Decision}
-use Rattle.commands.specs.declared.decision.Judged.{Judged}
-use Rattle.commands.specs.declared.decision.Judged.TheVariants.{Fails, Passes}
-use Rattle.commands.proofs.DecisionLaws.{outcome, judge-is, judge_passed, plain-sound, Checked, fails, decided, quoted_placed}
+use Rattle.commands.proofs.DecisionLaws.{judge_failed, judge_passed, plain-sound, Checked, fails, by_passing, quoted_placed}
 
 -- ---- one record
 
--- j is what the code's judgment gave
-module _ (content : Bool) (display count : ℕ) {j : Judged} (e : j ≡ judge (one_checks content display count) Fails Passes) where
-  one-is : (s : List ℕ) (l : Lent) (r : records.Record) → has_content s ≡ content → l.display ≡ display → r.count ≡ count
-      → sign_one s l r
-      ≡ outcome (only sign keep) (record { answer = draft (sign_draft s l r); change = set_count r.key_id (suc r.count) }) j
-  unfolding sign_one
-  one-is s l r f g h = judge-is (one_checks (has_content s) l.display r.count) (only sign keep) _ (rw (← f, ← g, ← h) at e)
-
-  pub one-fails : {i n : ℕ} → j ≡ Fails n → DecidesOne content display count i (decision (Status n) 0 Keep)
-  unfolding answer_of only
-  one-fails {n = n} o =
-      record { one = λ s l m t c chosen f g h q r. (sym (one-is s l _ f g h ∙ rw o), omega arith, plain-sound (Status n) tt, tt) }
-
-  pub one_passes : {i : ℕ} → j ≡ Passes
-      → DecidesOne content display count i (decision (Signed i (count + 1) content) 0 (SetCount i (count + 1)))
-  unfolding answer_of
-  one_passes {i} o =
+module _ (content : Bool) (display count : ℕ) where
+  pub one_fails : {i n : ℕ} (v : ℕ) → refused n ≡ judge (one_checks content display count) refused (gave v)
+      → DecidesOne content display count i (decision (Status n) 0 Keep)
+  unfolding answer_of only sign_one
+  one_fails {n = n} v e =
       record {
         one =
             λ s l m t c chosen f g h q r. (
-              rw (← f, ← h, sign-draft s l (get_or t i no_record), add-one) (sym (one-is s l _ f g h ∙ rw o)),
+              rw (f, g, h) (sym (judge_failed (one_checks content display count) (only sign keep) _ v e)),
               omega arith,
-              plain-sound (Signed i (count + 1) content) (refl, q, r.there),
+              plain-sound (Status n) tt,
+              tt,
+            );
+      }
+
+  pub one_passes : {i n : ℕ} → gave n ≡ judge (one_checks content display count) refused (gave (count + 1))
+      → DecidesOne content display count i (decision (Signed i n content) 0 (SetCount i n))
+  unfolding answer_of sign_one
+  one_passes {i} {n} e =
+      let p = judge_passed (one_checks content display count) _ e in
+      let is : gave n ≡ gave (count + 1) = e ∙ passes (one_checks content display count) refused _ p in
+      let next : n ≡ count + 1 = cc in
+      record {
+        one =
+            λ s l m t c chosen f g h q r. (
+              rw (next, ← f, ← h, sign-draft s l (get_or t i no_record), add-one)
+                  (sym (passes (one_checks (has_content s) l.display (get_or t i no_record).count) (only sign keep) _ (rw (f, g, h) p))),
+              omega arith,
+              plain-sound (Signed i n content) (refl, q, r.there),
               r,
             );
       }
@@ -83,21 +87,19 @@ first_of : (k : ℕ) (is : List ℕ) → k ≡ 1 → k ≤ length is → take k 
 first_of k [] e h = absurd (omega arith)
 first_of k (i ∷ is) e h = rw e
 
--- j is what the code's judgment gave
-module _ {s : List ℕ} {p : Params} (n : Numbers) (q : ParamsRead sign s p) {j : Judged}
-    (e : j ≡ judge (user_checks p.broken n.verdict) Fails Passes) where
+module _ {s : List ℕ} {p : Params} (n : Numbers) (q : ParamsRead sign s p) where
   sign_checked : (m key : List ℕ) (t : records.Table) → Checked sign s n m key t (user_checks p.broken n.verdict)
       (λ l. sign_chosen s l (chosen (fields_in key_handle s) (own m t)))
   unfolding decide decide_sign
   sign_checked m key t = record { by = λ a d k x. rw q.broken-is refl }
 
-  pub sign-fails : {m key chosen : List ℕ} {t : records.Table} {i : ℕ} → j ≡ Fails i
+  pub sign_fails : {m key chosen : List ℕ} {t : records.Table} {i : ℕ} → refused i ≡ judge (user_checks p.broken n.verdict) refused passed
       → Decides sign s n m key t p chosen (decision (Status i) 0 Keep)
-  sign-fails {m} {key} {t} o = fails (sign_checked m key t) e o
+  sign_fails {m} {key} {t = t} e = fails (sign_checked m key t) e
 
-  module _ (o : j ≡ Passes) where
+  module _ (e : passed ≡ judge (user_checks p.broken n.verdict) refused passed) where
     sign-unbroken : broken sign s ≡ false
-    sign-unbroken = sym q.broken-is ∙ (judge_passed (user_checks p.broken n.verdict) e o).0
+    sign-unbroken = sym q.broken-is ∙ (judge_passed (user_checks p.broken n.verdict) tt e).0
 
     pub sign-placed : ParamsPlaced s p
     sign-placed = q.unless_broken sign-unbroken
@@ -116,7 +118,7 @@ module _ {s : List ℕ} {p : Params} (n : Numbers) (q : ParamsRead sign s p) {j 
         let first-is : k ≡ 1 → take k cs ≡ get_or cs 0 0 ∷ [] = λ e. first_of k cs e h.within in
         let one : k ≡ 1 → records_at t (take k cs) ≡ r ∷ [] = λ e. ap (records_at t) (first-is e) in
         record {
-          signs = λ a d key x y. decided (sign_checked m key t) e a d x y ∙ rw (o, are, (handles_placed u).values);
+          signs = λ a d key x y. by_passing (sign_checked m key t) e a d x y ∙ rw (are, (handles_placed u).values);
           quoted = quoted_placed sign sign-unbroken refl sign-placed;
           within = h.within;
           number = simp (length-map, length-take-le k cs h.within);
@@ -132,7 +134,7 @@ module _ {s : List ℕ} {p : Params} (n : Numbers) (q : ParamsRead sign s p) {j 
 
 -- ---- by how many are chosen
 
--- none; several are several-listed
+-- none
 chosen_none : (s : List ℕ) (l : Lent) (rs : records.Table) → length rs ≡ 0 → sign_chosen s l rs ≡ only sign keep 0x02
 unfolding sign_chosen
 chosen_none s l [] h = refl

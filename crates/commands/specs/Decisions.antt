@@ -1,11 +1,11 @@
 -- What a command decides: a reply and a change, which together are the model's decision.
-use Rattle.std.specs.Prelude.{◌≡◌, ℕ, ◌≤◌, Bool, List, leb, length, get_or, take}
+use Rattle.std.specs.Prelude.{◌≡◌, ℕ, ◌≤◌, Bool, List, leb, length, get_or, take, Result, Ok, Err}
 use Rattle.model.specs.Lists.{among}
 use Rattle.model.specs.Tlv.{Kind, sign}
 use Rattle.model.specs.Records as records
 use Rattle.model.specs.Records.{own, key_ids, max_records}
 use Rattle.model.specs.Commands as model
-use Rattle.model.specs.Commands.{Lent, has_content, sign_one, decide}
+use Rattle.model.specs.Commands.{Lent, refused, gave, has_content, sign_one, decide}
 use Rattle.params.specs.Lent.{lent_of}
 use Rattle.params.specs.Parse.{ParamsRead}
 use Rattle.params.specs.declared.lent.Numbers.{Numbers}
@@ -13,13 +13,31 @@ use Rattle.params.specs.declared.parse.Params.{Params}
 use Rattle.stored_table.specs.Stored.{no_record}
 use Rattle.stored_table.specs.Changes.{change_of, CanCount, Can}
 use Rattle.stored_table.specs.declared.left.Change.{Change}
+use Rattle.stored_table.specs.declared.left.Change.TheVariants.{Keep}
 use Rattle.replies.specs.Replies.{answer_of, Quoted, Sound}
+use Rattle.replies.specs.Statuses.{number}
 use Rattle.replies.specs.declared.reply.Shape.{Shape}
+use Rattle.replies.specs.declared.reply.Shape.TheVariants as shape
+use Rattle.replies.specs.declared.status.Status.{Status}
 use Rattle.commands.specs.declared.decision.Decision.{Decision}
 
 -- the decision that is this reply, which names n records, and this change
 abbrev pub decision : Shape → ℕ → Change → Decision
 decision x n c = record { shape = x; named = n; change = c }
+
+-- what checks gave, in the model's words: the first status that fails, or what they give where all pass
+abbrev pub judged : {A : Type 0} → Result A Status → model.Result A
+judged (Err x) = refused (number x)
+judged (Ok v) = gave v
+
+-- all pass, and give nothing
+abbrev pub passed : model.Result (Unit {0})
+passed = gave tt
+
+-- what a command decided: where a check fails a status alone, and nothing changed
+abbrev pub decided : Result Decision Status → Decision
+decided (Err x) = decision (shape.Status (number x)) 0 Keep
+decided (Ok d) = d
 
 -- the numbers of the records that it names, which stand first here
 abbrev pub named_by : List ℕ → Decision → List ℕ

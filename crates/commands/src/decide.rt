@@ -5,7 +5,7 @@ ghost use Rattle.params.specs.Parse.{ParamsRead, HandlesRead};
 ghost use Rattle.stored_table.specs.Stored.{Indexed, table_in};
 ghost use Rattle.commands.specs.Decisions.{Decides};
 
-use crate::decision::Decision;
+use crate::decision::{Decision, only};
 use crate::deregister::deregister;
 use crate::get_info::get_info;
 use crate::open_settings::open_settings;
@@ -35,7 +35,7 @@ pub fn decide(
     ensures { Decides (kind_is kind) command.now numbers mixed.now key_id.now (table_in table.now) params
         chosen.new result }
 {
-    match kind {
+    let decided = match kind {
         Kind::GetInfo => get_info(params),
         Kind::Register => register(command, params, numbers, mixed, key_id, table, places),
         Kind::Sign => sign(
@@ -43,5 +43,6 @@ pub fn decide(
         ),
         Kind::Deregister => deregister(command, params, mixed, table, places),
         Kind::OpenSettings => open_settings(params),
-    }
+    };
+    decided.unwrap_or_else(only)
 }

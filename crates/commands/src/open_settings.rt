@@ -1,16 +1,16 @@
 ghost use Rattle.model.specs.Tlv.{open_settings};
-ghost use Rattle.commands.specs.Decisions.{DecidesAlways};
+ghost use Rattle.commands.specs.Decisions.{DecidesAlways, decided};
 
-use crate::decision::{Decision, only};
+use crate::decision::Decision;
 use params::parse::Params;
-use replies::status::{CMD_NOT_SUPPORTED, PARAMS_INVALID};
+use replies::status::Status;
 
 // Open settings, which this token does not have.
-pub fn open_settings(params: Params) -> Decision
-    ensures { DecidesAlways open_settings params result }
+pub fn open_settings(params: Params) -> Result<Decision, Status>
+    ensures { DecidesAlways open_settings params (decided result) }
 {
     if params.broken {
-        return only(PARAMS_INVALID);
+        return Err(Status::ParamsInvalid);
     }
-    only(CMD_NOT_SUPPORTED)
+    Err(Status::CmdNotSupported)
 }

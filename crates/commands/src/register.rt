@@ -2,22 +2,19 @@ ghost use Rattle.std.specs.Prelude.{◌≡◌, ℕ, ◌||◌, List, [], leb, eqb
 ghost use Rattle.model.specs.Lists.{among};
 ghost use Rattle.model.specs.Tlv.{register, full, surrogate};
 ghost use Rattle.model.specs.Records.{own, key_ids, max_records};
-ghost use Rattle.model.specs.Commands.{judge, register_checks};
+ghost use Rattle.model.specs.Commands.{refused, judge, register_checks};
 ghost use Rattle.params.specs.Lent.{lent_of};
 ghost use Rattle.params.specs.Parse.{ParamsRead};
 ghost use Rattle.stored_table.specs.Stored.{Indexed, table_in};
-ghost use Rattle.commands.specs.Decisions.{Decides};
-ghost use Rattle.commands.specs.declared.decision.Judged.TheVariants.{Fails, Passes};
+ghost use Rattle.commands.specs.Decisions.{Decides, judged, passed, decided};
 
-use crate::decision::{Decision, Judged, only, plain};
+use crate::decision::{Decision, plain};
 use crate::statuses::verdict_status;
 use fields::tags;
 use params::lent::Numbers;
 use params::parse::Params;
 use replies::reply::Shape;
-use replies::status::{
-    ATTESTATION_NOT_SUPPORTED, ERR_UNKNOWN, INSUFFICIENT_RESOURCES, PARAMS_INVALID,
-};
+use replies::status::Status;
 use stored_table::left::Change;
 use stored_table::lookups::{is_stored, own_count};
 use stored_table::records::{MAX_OWN, MAX_RECORDS};
@@ -27,10 +24,7 @@ use tlv::numbers::get16;
 fn is_supported(attestation: usize) -> bool
     ensures { result ≡ (eqb attestation full || eqb attestation surrogate) }
 {
-    if attestation == tags::BASIC_FULL {
-        return true;
-    }
-    attestation == tags::BASIC_SURROGATE
+    attestation == tags::BASIC_FULL || attestation == tags::BASIC_SURROGATE
 }
 
 // Register's statuses in their order. They do not look at what is lent for the draft alone.
@@ -42,32 +36,29 @@ fn judge_register(
     key_id: &[u8],
     table: &[u8],
     places: &[usize],
-) -> Judged
+) -> Result<(), Status>
     requires params_read { ParamsRead register command.now params }
     requires indexed { Indexed table.now places.now }
-    ensures { result ≡ judge (register_checks command.now (lent_of [] numbers [] key_id.now [] [])
+    ensures { judged result ≡ judge (register_checks command.now (lent_of [] numbers [] key_id.now [] [])
         (own mixed.now (table_in table.now))
-        (among key_id.now (key_ids (table_in table.now))) (leb max_records (length (table_in table.now)))) Fails Passes }
+        (among key_id.now (key_ids (table_in table.now))) (leb max_records (length (table_in table.now)))) refused passed }
 {
     if params.broken {
-        return Judged::Fails(PARAMS_INVALID);
+        return Err(Status::ParamsInvalid);
     }
     if numbers.verdict != 0 {
-        return Judged::Fails(verdict_status(numbers.verdict));
+        return Err(verdict_status(numbers.verdict));
     }
     if !is_supported(get16(command, params.attestation_type.start)) {
-        return Judged::Fails(ATTESTATION_NOT_SUPPORTED);
+        return Err(Status::AttestationNotSupported);
     }
     if is_stored(table, places, key_id) {
-        return Judged::Fails(ERR_UNKNOWN);
+        return Err(Status::ErrUnknown);
     }
-    if MAX_OWN <= own_count(table, places, mixed) {
-        return Judged::Fails(INSUFFICIENT_RESOURCES);
+    if MAX_OWN <= own_count(table, places, mixed) || MAX_RECORDS <= places.len() {
+        return Err(Status::InsufficientResources);
     }
-    if MAX_RECORDS <= places.len() {
-        return Judged::Fails(INSUFFICIENT_RESOURCES);
-    }
-    Judged::Passes
+    Ok(())
 }
 
 // Register: a status, or key registration data and a record more.
@@ -79,19 +70,13 @@ pub fn register(
     key_id: &[u8],
     table: &[u8],
     places: &[usize],
-) -> Decision
+) -> Result<Decision, Status>
     requires params_read { ParamsRead register command.now params }
     requires mixed_len { (length mixed.now ≡ 32) × (length key_id.now ≡ 32) }
     requires indexed { Indexed table.now places.now }
     ensures { (chosen : List ℕ) → Decides register command.now numbers mixed.now key_id.now (table_in table.now)
-        params chosen result }
+        params chosen (decided result) }
 {
-    let judged = judge_register(command, params, numbers, mixed, key_id, table, places);
-    match judged {
-        Judged::Fails(status) => only(status),
-        Judged::Passes => {
-            let name = params.username;
-            plain(Shape::Registration, Change::Add(name))
-        }
-    }
+    judge_register(command, params, numbers, mixed, key_id, table, places)?;
+    Ok(plain(Shape::Registration, Change::Add(params.username)))
 }

@@ -1,72 +1,60 @@
-ghost use Rattle.std.specs.Prelude.{◌≡◌, ℕ, List, length};
+ghost use Rattle.std.specs.Prelude.{◌≡◌, ℕ, ◌+◌, List, length};
 ghost use Rattle.model.specs.Tlv.{sign};
-ghost use Rattle.model.specs.Commands.{judge, user_checks, one_checks};
+ghost use Rattle.model.specs.Commands.{refused, gave, judge, user_checks, one_checks};
 ghost use Rattle.params.specs.Parse.{ParamsRead, HandlesRead};
 ghost use Rattle.stored_table.specs.Stored.{Indexed, table_in};
-ghost use Rattle.commands.specs.Decisions.{Decides, DecidesOne};
-ghost use Rattle.commands.specs.declared.decision.Judged.TheVariants.{Fails, Passes};
+ghost use Rattle.commands.specs.Decisions.{Decides, DecidesOne, judged, passed, decided};
 
-use crate::decision::{Decision, Judged, only, plain};
+use crate::decision::{Decision, plain};
 use crate::statuses::{display_status, verdict_status};
 use params::lent::Numbers;
 use params::parse::Params;
 use replies::reply::Shape;
-use replies::status::{ACCESS_DENIED, ERR_UNKNOWN, PARAMS_INVALID};
+use replies::status::Status;
 use stored_table::left::Change;
 use stored_table::lookups::choose;
 use stored_table::records::count_of;
 
 // Sign's statuses before the choice: a rule broken, then the verdict.
-fn judge_sign(broken: bool, verdict: u32) -> Judged
-    ensures { result ≡ judge (user_checks broken verdict) Fails Passes }
+fn judge_sign(broken: bool, verdict: u32) -> Result<(), Status>
+    ensures { judged result ≡ judge (user_checks broken verdict) refused passed }
 {
     if broken {
-        return Judged::Fails(PARAMS_INVALID);
+        return Err(Status::ParamsInvalid);
     }
     if verdict != 0 {
-        return Judged::Fails(verdict_status(verdict));
+        return Err(verdict_status(verdict));
     }
-    Judged::Passes
+    Ok(())
 }
 
-// The display result, which counts with content only, then the counter.
-fn judge_one(content: bool, display: u32, count: u32) -> Judged
-    ensures { result ≡ judge (one_checks content display count) Fails Passes }
+// The display result, which counts with content only, then the counter, which rises by 1.
+fn judge_one(content: bool, display: u32, count: u32) -> Result<u32, Status>
+    ensures { judged result ≡ judge (one_checks content display count) refused (gave (count + 1)) }
 {
-    if content {
-        if display != 0 {
-            return Judged::Fails(display_status(display));
-        }
+    if content && display != 0 {
+        return Err(display_status(display));
     }
-    if count == u32::MAX {
-        return Judged::Fails(ERR_UNKNOWN);
-    }
-    Judged::Passes
+    count.checked_add(1).ok_or(Status::ErrUnknown)
 }
 
 // One is chosen, with this count: record i.
-fn sign_one(content: bool, display: u32, count: u32, i: usize) -> Decision
-    ensures { DecidesOne content display count i result }
+fn sign_one(content: bool, display: u32, count: u32, i: usize) -> Result<Decision, Status>
+    ensures { DecidesOne content display count i (decided result) }
 {
-    let judged = judge_one(content, display, count);
-    match judged {
-        Judged::Fails(status) => only(status),
-        Judged::Passes => {
-            let next = count + 1;
-            let shape = Shape::Signed {
-                record: i,
-                count: next,
-                content,
-            };
-            plain(
-                shape,
-                Change::SetCount {
-                    record: i,
-                    count: next,
-                },
-            )
-        }
-    }
+    let next = judge_one(content, display, count)?;
+    let shape = Shape::Signed {
+        record: i,
+        count: next,
+        content,
+    };
+    Ok(plain(
+        shape,
+        Change::SetCount {
+            record: i,
+            count: next,
+        },
+    ))
 }
 
 // Sign: a status, the names of several, whose numbers it puts into what is lent for them, or signed data and a count raised. The key handles stand at
@@ -80,33 +68,28 @@ pub fn sign(
     table: &[u8],
     places: &[usize],
     chosen: &mut [usize],
-) -> Decision
+) -> Result<Decision, Status>
     requires params_read { ParamsRead sign command.now params × HandlesRead sign command.now handles.now params.handle_count }
     requires indexed { Indexed table.now places.now }
     requires chosen_len { length chosen.old ≡ 8 }
     ensures { (k : List ℕ) → Decides sign command.now numbers mixed.now k (table_in table.now) params
-        chosen.new result }
+        chosen.new (decided result) }
 {
-    let judged = judge_sign(params.broken, numbers.verdict);
-    match judged {
-        Judged::Fails(status) => only(status),
-        Judged::Passes => {
-            let n = params.handle_count;
-            let named = choose(table, places, mixed, command, &handles[0..n], chosen);
-            if named == 0 {
-                return only(ACCESS_DENIED);
-            }
-            if named == 1 {
-                let i = chosen[0];
-                let content = params.transaction_content;
-                let count = count_of(table, places[i]);
-                return sign_one(!content.is_empty(), numbers.display, count, i);
-            }
-            Decision {
-                shape: Shape::Names,
-                named,
-                change: Change::Keep,
-            }
+    judge_sign(params.broken, numbers.verdict)?;
+    let given = &handles[..params.handle_count];
+    let named = choose(table, places, mixed, command, given, chosen);
+    match named {
+        0 => Err(Status::AccessDenied),
+        1 => {
+            let i = chosen[0];
+            let content = !params.transaction_content.is_empty();
+            let count = count_of(table, places[i]);
+            sign_one(content, numbers.display, count, i)
         }
+        _ => Ok(Decision {
+            shape: Shape::Names,
+            named,
+            change: Change::Keep,
+        }),
     }
 }

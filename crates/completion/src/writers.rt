@@ -46,7 +46,8 @@ fn certificate_len(attestation: usize, certificate: &[u8]) -> usize
     }
 }
 
-// The response to a Register: in the attestation tag stands the signature and, where the attestation is full, the certificate after it.
+// The response to a Register: in the attestation tag stands the signature and, where the attestation is full, the certificate after it. The type that
+// C gives is itself that tag, so it stays a number.
 pub fn put_registration(
     out: &mut [u8],
     draft: &[u8],

@@ -14,27 +14,19 @@ const LEVELS_IN_CHILD: usize = 6;
 fn is_skippable(tag: usize, v: &[u8]) -> bool
     ensures { result ≡ skippable (tlv tag v.now) }
 {
-    if tag / CRITICAL % 2 == 1 {
-        return false;
-    }
-    if tag / COMPOSITE % 2 == 1 {
-        return well_formed(v, LEVELS_IN_CHILD);
-    }
-    true
+    tag / CRITICAL % 2 == 0 && (tag / COMPOSITE % 2 == 0 || well_formed(v, LEVELS_IN_CHILD))
 }
 
 // Whether one more child is taken of a slot that was given n times and may be given `most` times: one that the command does not list may be
 // skipped; one that it lists is not too many, and obeys its field's rule.
+#[tactic(auto, unfolding(crate::specs::Children::child_taken))]
 pub fn is_taken(tag: usize, v: &[u8], slot: usize, n: u8, most: u8) -> bool
     ensures { result ≡ child_taken slot most n (tlv tag v.now) }
 {
     if most == 0 {
         return is_skippable(tag, v);
     }
-    if most <= n {
-        return false;
-    }
-    slot_fits(slot, v)
+    n < most && slot_fits(slot, v)
 }
 
 // Whether each slot was given as often as it must be.

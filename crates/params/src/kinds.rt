@@ -61,6 +61,7 @@ pub const KEY_HANDLE: usize = 9;
 pub const SLOTS: usize = 10;
 
 // The slot of the field with a tag; SLOTS for any other tag.
+#[tactic(auto, using(crate::proofs::KindLaws::slot_none), unfolding(crate::specs::Slots::slot_of))]
 pub fn slot_of(tag: usize) -> usize
     ensures { result ≡ slot_of tag }
 {
@@ -91,6 +92,7 @@ pub struct Listing {
 
 // What each command lists, in the order of the slots. A field that it does not list is never given. Made once for a command, it is
 // then indexed.
+#[tactic(auto, unfolding(crate::specs::Slots::least_for, crate::specs::Slots::most_for))]
 pub fn listed(kind: Kind) -> Listing
     ensures { result ≡ listing_for (kind_is kind) }
 {

@@ -47,6 +47,7 @@ fn no_params() -> Params
 
 // The answer to a command whose children were all taken: how often each slot was given, and where the first of its values stands. Key handles,
 // whose slot is the last, are only counted.
+#[tactic(auto, unfolding(crate::specs::Parse::params_at))]
 fn params_at(least: [u8; ENTRIES], times: [u8; ENTRIES], first: [Span; KEY_HANDLE]) -> Params
     ensures { result ≡ params_at least times first }
 {

@@ -1,6 +1,6 @@
 -- The names and KeyIDs of some records as they are written: one pair, and one pair after another; and how many bytes they take.
 -- Assumes nothing.
-use mathlib.Core.Path.{◌≡◌, refl}
+use mathlib.Core.Path.{◌≡◌, refl, ◌∙◌}
 use mathlib.Core.List.{List, [], ◌∷◌, ◌++◌, map-append, append_assoc}
 use mathlib.Core.Bool.{true}
 use Prim.Native.Nat.{ℕ, zero, suc, ◌+◌, ◌*◌, ◌≤◌, ◌<◌}
@@ -8,6 +8,9 @@ use native.Mathlib.Numerals.{add-one}
 use native.Mathlib.Omega.{arith}
 use lib.ListN.{length, get_or, take, length-append}
 use lib.Seq.{take-suc}
+use Rattle.std.specs.List.{sum_by}
+use Rattle.std.proofs.lemmas.Grind.{get_or_default_zero}
+use Rattle.std.proofs.lemmas.List.Sums.{sum_by-cons}
 use Rattle.model.specs.Tlv.{le, tlv, bytes, header, pair_tag}
 use Rattle.model.specs.Layouts.{fill, write}
 use Rattle.model.specs.Records as model
@@ -16,7 +19,7 @@ use Rattle.tlv.specs.Writing.{Wrote}
 use Rattle.tlv.proofs.WriteLaws.{then, then_run, then_value, same, wrote_none}
 use Rattle.stored_table.specs.Stored.{no_record, name_size, record_at, Stands, Indexed, table_in}
 use Rattle.stored_table.specs.Chosen.{ChosenOf, records_at}
-use Rattle.stored_table.proofs.IndexLaws.{RecordIs, name-length, key_length, record-at, length-places}
+use Rattle.stored_table.proofs.IndexLaws.{RecordIs, name-length, key_length, record-at, length-places, few-places}
 use Rattle.replies.specs.Writes.{pairs_of}
 use Rattle.replies.specs.Replies.{pairs_size}
 
@@ -65,7 +68,7 @@ module _ (t : model.Table) (is : List ℕ) (i : ℕ) (h : i < length is) where
 
   -- one record more: its pair is counted, and written
   module _ {table : List ℕ} {place : ℕ} (e : RecordIs table place (get_or t (get_or is i 0) no_record)) where
-    pub size-more : pairs_size (records_at t (take (i + 1) is)) ≡ pairs_size (records_at t (take i is)) + (44 + name_size table place)
+    size-more : pairs_size (records_at t (take (i + 1) is)) ≡ pairs_size (records_at t (take i is)) + (44 + name_size table place)
     size-more = rw records-more (omega (arith, e.size, size-append (records_at t (take i is)) (next ∷ [])))
 
     pub pairs-more : {d d₁ d₂ : List ℕ} {at e₁ e₂ : ℕ}
@@ -78,7 +81,7 @@ module _ (t : model.Table) (is : List ℕ) (i : ℕ) (h : i < length is) where
 -- ---- how many bytes they take
 
 -- no more than those of more records
-pub size-part : (t : model.Table) (is : List ℕ) (i : ℕ) → i ≤ length is → pairs_size (records_at t (take i is)) ≤ pairs_size (records_at t is)
+size-part : (t : model.Table) (is : List ℕ) (i : ℕ) → i ≤ length is → pairs_size (records_at t (take i is)) ≤ pairs_size (records_at t is)
 size-part t is zero h = omega arith
 size-part t [] (suc i) h = omega arith
 size-part t (j ∷ is) (suc i) h = omega (arith, size-part t is i (omega arith))
@@ -107,14 +110,46 @@ module _ (t : model.Table) (ok : model.table_ok t ≡ true) where
 
 -- ---- the records that are named
 
+-- how many bytes the pair of the record of a number takes
+abbrev pub pair_size : (table places : List ℕ) → ℕ → ℕ
+pair_size table places j = 44 + name_size table (get_or places j 0)
+
 module _ {table places : List ℕ} (x : Indexed table places) {named : List ℕ} (o : ChosenOf (table_in table) named) where
   pub named-most : pairs_size (records_at (table_in table) named) ≤ 1376
   named-most = omega (arith, (sized (table_in table) x.ok named o.each).most, o.few)
 
-  module _ (i : ℕ) (h : i < length named) where
-    -- there is a record of this number, and it stands at its place
-    pub named-place : get_or named i 0 < length places
-    named-place = omega (arith, o.each i h, length-places x)
+  -- one of them has this number: there is such a record, and it stands at its place
+  pub record Named (j : ℕ) : Type 0 where
+    pub within : j < length places
+    pub near : j < 32
+    pub is : RecordIs table (get_or places j 0) (get_or (table_in table) j no_record)
 
-    pub named-there : let j = get_or named i 0 in RecordIs table (get_or places j 0) (get_or (table_in table) j no_record)
-    named-there = record-at x _ named-place
+  pub named_at : (i : ℕ) → i < length named → Named (get_or named i 0)
+  named_at i h =
+      let w : get_or named i 0 < length places = omega (arith, o.each i h, length-places x) in
+      record { within = w; near = omega (arith, w, few-places x); is = record-at x _ w }
+
+  pub named_item : (j i : ℕ) → i < length named → j ≡ get_or named i j → Named j
+  named_item j i h e = rw (e ∙ get_or_default_zero named i j h) (named_at i h)
+
+  -- the next of them is counted, and its pair has room beside those before it
+  module _ (i : ℕ) (h : i < length named) where
+    abbrev place : ℕ
+    place = get_or places (get_or named i 0) 0
+
+    pub next-room : pairs_size (records_at (table_in table) (take i named)) + (44 + name_size table place)
+        ≤ pairs_size (records_at (table_in table) named)
+    next-room =
+        let more = size-more (table_in table) named i h (named_at i h).is in
+        omega (arith, more, size-part (table_in table) named (i + 1) (omega (arith, h)))
+
+  sizes_sum : (is : List ℕ) → ((i : ℕ) → i < length is → get_or is i 0 < length (table_in table))
+      → sum_by (pair_size table places) is ≡ pairs_size (records_at (table_in table) is)
+  sizes_sum [] each = refl
+  sizes_sum (j ∷ is) each =
+      let there = record-at x j (omega (arith, each 0 (omega arith), length-places x)) in
+      let rest = sizes_sum is (λ i h. each (suc i) (omega arith)) in
+      omega (arith, there.size, rest, sum_by-cons (pair_size table places) j is)
+
+  pub pairs-sum : sum_by (pair_size table places) named ≡ pairs_size (records_at (table_in table) named)
+  pairs-sum = sizes_sum named o.each

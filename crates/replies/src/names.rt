@@ -16,20 +16,24 @@ const BESIDE_NAME: usize = 44;
 
 const INSIDE_BESIDE_NAME: usize = 40;
 
+// How many bytes the name and the KeyID of the record at a place take.
+fn pair_len(table: &[u8], place: usize) -> usize
+    requires { Stands table.now place }
+    ensures { result ≡ 44 + name_size table.now place }
+{
+    BESIDE_NAME + name_len(table, place)
+}
+
 // How many bytes the names and KeyIDs of the records with these numbers take.
 pub fn pairs_len(table: &[u8], places: &[usize], named: &[usize]) -> usize
     requires indexed { Indexed table.now places.now }
     requires chosen_of { ChosenOf (table_in table.now) named.now }
     ensures { result ≡ pairs_size (records_at (table_in table.now) named.now) }
 {
-    let mut len = 0;
-    let mut i = 0;
-    while i < named.len() {
-        let record = named[i];
-        len += BESIDE_NAME + name_len(table, places[record]);
-        i += 1;
-    }
-    len
+    named
+        .iter()
+        .map(|&record| pair_len(table, places[record]))
+        .sum()
 }
 
 // Writes the name and the KeyID of the record at a place.
@@ -56,11 +60,8 @@ fn put_pairs(out: &mut [u8], at: usize, table: &[u8], places: &[usize], named: &
         (pairs_size (records_at (table_in table.now) named.now)) out.new result }
 {
     let mut end = at;
-    let mut i = 0;
-    while i < named.len() {
-        let record = named[i];
+    for &record in named {
         end = put_pair(out, end, table, places[record]);
-        i += 1;
     }
     end
 }

@@ -1,8 +1,9 @@
 ghost use Rattle.std.specs.Prelude.{◌≡◌};
 ghost use Rattle.replies.specs.Replies.{is_draft};
 
-// A reply. The records whose names are given stand beside it, by their numbers, because an enum cannot hold an array.
-#[derive(Clone, Copy)]
+// A reply. The records whose names are given stand beside it, by their numbers, where its caller lent room for them: an array in it would be copied
+// wherever it goes.
+#[derive(Clone, Copy, Debug, PartialEq, Eq)]
 pub enum Shape {
     Status(usize), // a status alone
     Info, // GetInfo's information
@@ -20,16 +21,6 @@ impl Shape {
     pub fn is_draft(self) -> bool
         ensures { result ≡ is_draft self }
     {
-        match self {
-            Shape::Status(_) => false,
-            Shape::Info => false,
-            Shape::Names => false,
-            Shape::Registration => true,
-            Shape::Signed {
-                record: _,
-                count: _,
-                content: _,
-            } => true,
-        }
+        matches!(self, Shape::Registration | Shape::Signed { .. })
     }
 }

@@ -4,35 +4,39 @@ ghost use Rattle.model.specs.Layouts.{write};
 ghost use Rattle.model.specs.Commands.{status_only};
 ghost use Rattle.tlv.specs.Writing.{Wrote};
 ghost use Rattle.params.specs.Kinds.{kind_is};
+ghost use Rattle.replies.specs.Statuses.{number};
 
 use fields::tags;
 use params::kinds::Kind;
 use tlv::writer::{put_header, put_tlv16};
 
-// Statuses, by the names of source document 001.
-pub const OK: usize = 0x00;
+// Statuses, by the names of source document 001 and each with its number there.
+#[derive(Clone, Copy, Debug, PartialEq, Eq)]
+pub enum Status {
+    Ok = 0x00,
+    ErrUnknown = 0x01,
+    AccessDenied = 0x02,
+    UserNotEnrolled = 0x03,
+    CannotRenderTransactionContent = 0x04,
+    UserCancelled = 0x05,
+    CmdNotSupported = 0x06,
+    AttestationNotSupported = 0x07,
+    ParamsInvalid = 0x08,
+    UserNotResponsive = 0x0E,
+    InsufficientResources = 0x0F,
+    UserLockout = 0x10,
+}
 
-pub const ERR_UNKNOWN: usize = 0x01;
+impl From<Status> for usize {
+    ghost from_gives = { λ status n. n ≡ number status };
 
-pub const ACCESS_DENIED: usize = 0x02;
+    fn from(status: Status) -> usize {
+        status as usize
+    }
+}
 
-pub const USER_NOT_ENROLLED: usize = 0x03;
-
-pub const CANNOT_RENDER_TRANSACTION_CONTENT: usize = 0x04;
-
-pub const USER_CANCELLED: usize = 0x05;
-
-pub const CMD_NOT_SUPPORTED: usize = 0x06;
-
-pub const ATTESTATION_NOT_SUPPORTED: usize = 0x07;
-
-pub const PARAMS_INVALID: usize = 0x08;
-
-pub const USER_NOT_RESPONSIVE: usize = 0x0E;
-
-pub const INSUFFICIENT_RESOURCES: usize = 0x0F;
-
-pub const USER_LOCKOUT: usize = 0x10;
+// The number with which each response starts that says more than a status.
+pub const OK: usize = Status::Ok as usize;
 
 // The tag of a command's response.
 fn response_tag(kind: Kind) -> usize

@@ -2,7 +2,6 @@ ghost use Rattle.std.specs.Prelude.{◌≡◌, ◌-◌, ◌≤◌, length};
 ghost use Rattle.model.specs.Commands.{bytes_of};
 ghost use Rattle.tlv.specs.Writing.{Wrote};
 ghost use Rattle.params.specs.Kinds.{kind_is};
-ghost use Rattle.params.specs.Lent.{lent_of};
 ghost use Rattle.stored_table.specs.Stored.{Indexed, table_in};
 ghost use Rattle.replies.specs.Replies.{answer_of, challenge_len, reply_size, Short, Ready};
 
@@ -12,7 +11,7 @@ use crate::names::{pairs_len, put_names};
 use crate::reply::Shape;
 use crate::status::put_status;
 use params::kinds::Kind;
-use params::lent::Numbers;
+use params::lent::Lent;
 use params::parse::Params;
 use stored_table::records::key_of;
 use tlv::heads::{Span, part_of};
@@ -47,7 +46,7 @@ pub fn reply_len(
     }
 }
 
-// Writes a reply of len bytes, to a command of this kind with these parameters, from the front of an output that is long enough.
+// Writes a reply of len bytes, to a command of this kind with these parameters that was lent this, from the front of an output that is long enough.
 pub fn write_reply(
     out: &mut [u8],
     shape: Shape,
@@ -56,37 +55,27 @@ pub fn write_reply(
     kind: Kind,
     command: &[u8],
     params: Params,
-    aaid: &[u8],
-    numbers: Numbers,
-    metadata: &[u8],
-    key_id: &[u8],
-    public_key: &[u8],
-    nonce: &[u8],
+    lent: &Lent,
     table: &[u8],
     places: &[usize],
 ) -> usize
-    requires ready { Ready command.now (lent_of aaid.now numbers metadata.now key_id.now public_key.now nonce.now) (table_in table.now) params named.now shape }
+    requires ready { Ready command.now lent.now (table_in table.now) params named.now shape }
     requires indexed { Indexed table.now places.now }
-    requires len_value { (len ≡ reply_size (challenge_len params) (length public_key.now) (length nonce.now) (table_in table.now) named.now shape) × (len ≤ length out.old) }
-    ensures { Wrote out.old 0
-        (bytes_of
-        (answer_of (kind_is kind) command.now
-        (lent_of aaid.now numbers metadata.now key_id.now public_key.now nonce.now)
-        (table_in table.now) named.now shape))
-        len out.new result }
+    requires len_value { (len ≡ reply_size (challenge_len params) (length lent.now.public_key) (length lent.now.nonce) (table_in table.now) named.now shape) × (len ≤ length out.old) }
+    ensures { Wrote out.old 0 (bytes_of (answer_of (kind_is kind) command.now lent.now (table_in table.now) named.now shape)) len out.new result }
 {
     match shape {
         Shape::Status(status) => put_status(out, kind, status),
-        Shape::Info => put_info(out, aaid, metadata),
+        Shape::Info => put_info(out, lent.aaid, lent.metadata),
         Shape::Names => put_names(out, len, table, places, named),
         Shape::Registration => put_krd(
             out,
             len,
-            aaid,
-            numbers,
+            lent.aaid,
+            lent.numbers,
             part_of(command, params.challenge_hash),
-            key_id,
-            public_key,
+            lent.key_id,
+            lent.public_key,
         ),
         Shape::Signed {
             record,
@@ -95,10 +84,10 @@ pub fn write_reply(
         } => put_signed_data(
             out,
             len,
-            aaid,
-            numbers,
+            lent.aaid,
+            lent.numbers,
             content,
-            nonce,
+            lent.nonce,
             part_of(command, params.challenge_hash),
             part_of(command, params.transaction_content),
             key_of(table, places[record]),

@@ -6,7 +6,7 @@ use mathlib.Core.List.{List, [], ◌∷◌, ◌++◌, map, append_assoc, append-
 use Prim.Native.Nat.{ℕ, zero, suc, ◌+◌, ◌*◌, ◌≤◌, ◌<◌}
 use native.Mathlib.Omega.{arith}
 use lib.ListN.{length, take, set, length-append}
-use lib.Seq.{take_all}
+use lib.Seq.{take_all, length-take-le}
 use lib.Dec.{leb}
 use borrow.Author.Tests.{leb-true}
 use Rattle.model.specs.Lists.{any}
@@ -14,17 +14,21 @@ use Rattle.model.specs.Tlv.{tag_of, username, key_handle}
 use Rattle.model.specs.Layouts.{reads}
 use Rattle.model.specs.Commands.{name_pairs, name_list}
 use Rattle.model.specs.Reader.{Part, field_parts, list_lengths}
-use Rattle.model.proofs.Basics.{both}
+use Rattle.model.proofs.Basics.{both, up-to}
 use Rattle.model.proofs.LayoutWritten.{all_member, any_found}
 use Rattle.model.proofs.ResponseWitness.{pairs_plain}
 use Rattle.tlv.specs.Numbers.{num_at, NumberAt}
 use Rattle.tlv.specs.Firsts.{firsts}
 use Rattle.response_reader.specs.Met.{part_at}
-use Rattle.response_reader.specs.Readings.{Columns, column, columns, parts_of}
+use Rattle.response_reader.specs.Readings.{Columns, column, columns, parts_of, Same}
+use Rattle.response_reader.specs.declared.readings.Columns as code
 use Rattle.response_reader.specs.Laid.{fields_from, Lies, status_row}
 use Rattle.response_reader.proofs.LaidLaws.{fields_laid, lies, lies_before}
 
--- ---- rows more
+-- ---- a row more
+
+pub same_again : {a b c : code.Columns} → Same a b → Same b c → Same a c
+same_again p q = record { tags = q.tags ∙ p.tags; places = q.places ∙ p.places; lengths = q.lengths ∙ p.lengths }
 
 module _ (f : Part → ℕ) where
   column-more : (m : ℕ) (ps : List Part) (p : Part) → length ps < m
@@ -34,14 +38,28 @@ module _ (f : Part → ℕ) where
   column-more (suc m) [] p h = refl
   column-more (suc m) (q ∷ ps) p h = ap (λ (l : List ℕ). f q ∷ l) (column-more m ps p (omega arith))
 
-  column_two : (ps : List Part) (p q : Part) {n : ℕ} → length ps ≡ n → n + 1 < 17
-      → set (set (column f ps) n (f p)) (n + 1) (f q) ≡ column f (ps ++ (p ∷ q ∷ []))
-  column_two ps p q {n} e h =
-      let one : List Part = ps ++ (p ∷ []) in
-      let k : length one ≡ n + 1 = simp length-append (omega arith) in
-      let a : set (column f ps) n (f p) ≡ column f one = rw (← e) (column-more 17 ps p (omega arith)) in
-      let b : set (column f one) (n + 1) (f q) ≡ column f (one ++ (q ∷ [])) = rw (← k) (column-more 17 one q (omega arith)) in
-      rw a (b ∙ rw (append_assoc ps (p ∷ []) (q ∷ [])))
+  column_next : {c : List ℕ} {n : ℕ} (ps : List Part) (p : Part) → c ≡ column f ps → length ps ≡ n → n < 17
+      → set c n (f p) ≡ column f (ps ++ (p ∷ []))
+  column_next ps p e k h = rw (e, ← k) (column-more 17 ps p (omega arith))
+
+-- fewer than 17 are all
+short : (ps : List Part) (n : ℕ) → n ≡ length (take 17 ps) → n < 17 → length ps ≡ n
+short ps n e h = up-to (length ps) 17 (λ k. sym (rw (take_all 17 ps k) at e)) (λ k. absurd (omega (arith, rw (length-take-le 17 ps (omega arith)) at e)))
+
+pub row_next : {ts ls ss : List ℕ} {n : ℕ} (ps : List Part) (p : Part) → columns ts ls ss n ≡ parts_of ps → n < 17
+    → columns (set ts n p.tag) (set ls n p.place) (set ss n p.size) (n + 1) ≡ parts_of (ps ++ (p ∷ []))
+unfolding parts_of
+row_next {n = n} ps p e h =
+    let l : n ≡ length (take 17 ps) = ap (λ (c : Columns). c.len) e in
+    let z : length ps ≡ n = short ps n l h in
+    let m : length (take 17 (ps ++ (p ∷ []))) ≡ n + 1 =
+    let y : length (ps ++ (p ∷ [])) ≡ n + 1 = simp length-append (omega arith) in rw (take_all 17 (ps ++ (p ∷ [])) (omega arith)) y in
+    rw (
+      column_next (λ x. x.tag) ps p (ap (λ (c : Columns). c.tags) e) z h,
+      column_next (λ x. x.place) ps p (ap (λ (c : Columns). c.places) e) z h,
+      column_next (λ x. x.size) ps p (ap (λ (c : Columns). c.lengths) e) z h,
+      m,
+    )
 
 -- ---- the pairs from a place on
 
@@ -91,62 +109,44 @@ module _ (s : List ℕ) (so_far : List Part) (len at : ℕ) where
 
 -- ---- the loop over the pairs
 
--- the rows are those of the fields so far
-pub record Naming (s tags places lengths : List ℕ) (len at : ℕ) : Type 0 where
+-- the columns are those of the fields so far
+pub record Naming (s : List ℕ) (c : Columns) (at : ℕ) : Type 0 where
   pub so_far : List Part
-  pub pairs : Pairs s so_far len at
-  pub number : length so_far ≡ len
-  pub tags-are : tags ≡ column (λ p. p.tag) so_far
-  pub places-are : places ≡ column (λ p. p.place) so_far
-  pub lengths-are : lengths ≡ column (λ p. p.size) so_far
+  pub pairs : Pairs s so_far c.len at
+  pub rows : c ≡ parts_of so_far
 
-pub naming_start : (s : List ℕ) {tags places lengths : List ℕ} {len : ℕ} → any (λ n. reads (name_list n) s) list_lengths ≡ true
-    → columns tags places lengths len ≡ parts_of (status_row ∷ []) → Naming s tags places lengths len 10
+pub naming_start : (s : List ℕ) {c : Columns} → any (λ n. reads (name_list n) s) list_lengths ≡ true → c ≡ parts_of (status_row ∷ []) → Naming s c 10
 unfolding parts_of
-naming_start s {len = len} e c =
-    let (n, m, r) = any_found (λ n. reads (name_list n) s) list_lengths e in
-    let k : n ≤ 8 = leb-true _ _ (all_member (λ n. leb n 8) m refl) in
-    let i = lies (name_list n) s r in
+naming_start s {c} e r =
+    let (n, m, k) = any_found (λ n. reads (name_list n) s) list_lengths e in
+    let l : n ≤ 8 = leb-true _ _ (all_member (λ n. leb n 8) m refl) in
+    let i = lies (name_list n) s k in
     let z : 4 + num_at 2 s 2 ≡ length s = i.1 in
-    let one : len ≡ 1 = ap (λ (x : Columns). x.len) c in
+    let one : c.len ≡ 1 = ap (λ (x : Columns). x.len) r in
     record {
       so_far = status_row ∷ [];
       pairs =
           record {
             left = n;
-            whole = fields_laid (name_list n) s r (both (pairs_plain n).0 refl) ∙ append-nil (status_row ∷ fields_from (name_pairs n) s 10);
+            whole = fields_laid (name_list n) s k (both (pairs_plain n).0 refl) ∙ append-nil (status_row ∷ fields_from (name_pairs n) s 10);
             lie = rw z at i.0.1;
             few = omega arith;
           };
-      number = sym one;
-      tags-are = ap (λ (x : Columns). x.tags) c;
-      places-are = ap (λ (x : Columns). x.places) c;
-      lengths-are = ap (λ (x : Columns). x.lengths) c;
+      rows = r;
     }
 
-module _ {s tags places lengths : List ℕ} {len at : ℕ} (g : Naming s tags places lengths len at) where
-  pub naming_turn : at < length s → Turn s len at
-  naming_turn h = turn s g.so_far len at g.pairs.left g.pairs.lie g.pairs.few h
+module _ {s : List ℕ} {c : Columns} {at : ℕ} (g : Naming s c at) where
+  pub naming_turn : at < length s → Turn s c.len at
+  naming_turn h = turn s g.so_far c.len at g.pairs.left g.pairs.lie g.pairs.few h
 
-  pub naming_next : {n m : ℕ} → at < length s → NumberAt 2 s (at + 4 + 2) n → NumberAt 2 s (at + 2) m
-      → Naming s (set (set tags len (tag_of username)) (len + 1) (tag_of key_handle))
-      (set (set places len (at + 4 + 4)) (len + 1) (at + 4 + 4 + n + 4)) (set (set lengths len n) (len + 1) 32) (len + 2) (at + 4 + m)
-  naming_next {n} {m} h a b =
-      let p : Part = name_at at n in
-      let q : Part = handle_at at n in
-      let t : len + 1 < 17 = (naming_turn h).room in
+  pub naming_next : {n m : ℕ} {d : Columns} → at < length s → NumberAt 2 s (at + 4 + 2) n → NumberAt 2 s (at + 2) m → d.len ≡ c.len + 2
+      → d ≡ parts_of (g.so_far ++ (name_at at n ∷ []) ++ (handle_at at n ∷ [])) → Naming s d (at + 4 + m)
+  naming_next {n} h a b e r =
       record {
-        so_far = g.so_far ++ (p ∷ q ∷ []);
-        pairs = further s g.so_far len at g.pairs.left g.pairs.whole g.pairs.lie g.pairs.few h a b;
-        number = simp length-append (omega (arith, g.number));
-        tags-are = rw g.tags-are (column_two (λ x. x.tag) g.so_far p q g.number t);
-        places-are = rw g.places-are (column_two (λ x. x.place) g.so_far p q g.number t);
-        lengths-are = rw g.lengths-are (column_two (λ x. x.size) g.so_far p q g.number t);
+        so_far = g.so_far ++ (name_at at n ∷ handle_at at n ∷ []);
+        pairs = rw e (further s g.so_far c.len at g.pairs.left g.pairs.whole g.pairs.lie g.pairs.few h a b);
+        rows = r ∙ rw (append_assoc g.so_far (name_at at n ∷ []) (handle_at at n ∷ []));
       }
 
-  pub naming_all : length s ≤ at → columns tags places lengths len ≡ parts_of (field_parts s)
-  unfolding parts_of
-  naming_all h =
-      let k : field_parts s ≡ g.so_far = last s g.so_far len at g.pairs.left g.pairs.whole g.pairs.lie h in
-      let n : length (take 17 g.so_far) ≡ len = rw (take_all 17 g.so_far (omega (arith, g.number, g.pairs.few))) g.number in
-      rw (k, n, g.tags-are, g.places-are, g.lengths-are)
+  pub naming_all : length s ≤ at → c ≡ parts_of (field_parts s)
+  naming_all h = g.rows ∙ rw (last s g.so_far c.len at g.pairs.left g.pairs.whole g.pairs.lie h)

@@ -1,5 +1,5 @@
 -- What the two calls of the reader give.
-use Rattle.std.specs.Prelude.{ℕ, List, map, length, take, drop, Result, Ok, Err}
+use Rattle.std.specs.Prelude.{◌≡◌, ℕ, List, map, length, take, drop, Result, Ok, Err}
 use denote.Ref.{Bor}
 use Rattle.model.specs.Commands as model
 use Rattle.model.specs.Commands.{refused, gave}
@@ -9,6 +9,7 @@ use Rattle.tlv.specs.Firsts.{firsts}
 use Rattle.fields.specs.declared.refusals.Refusal.{Refusal}
 use Rattle.fields.specs.Refusals.{number}
 use Rattle.response_reader.specs.declared.readings.Reading.{Reading}
+use Rattle.response_reader.specs.declared.readings.Columns as code
 
 -- what a call gave, or its refusal by its number
 abbrev pub answer : {A : Type 0} → Result A Refusal → model.Result A
@@ -38,6 +39,16 @@ pub record Columns : Type 0 where
 
 abbrev pub columns : (tags places lengths : List ℕ) → ℕ → Columns
 columns ts ps ls n = record { tags = ts; places = ps; lengths = ls; len = n }
+
+-- what the code's columns hold
+abbrev pub held : code.Columns → Columns
+held c = columns c.tags.now c.places.now c.lengths.now c.count
+
+-- they are still the caller's
+pub record Same (old new : code.Columns) : Type 0 where
+  pub tags : new.tags.ghost_name ≡ old.tags.ghost_name
+  pub places : new.places.ghost_name ≡ old.places.ghost_name
+  pub lengths : new.lengths.ghost_name ≡ old.lengths.ghost_name
 
 -- the first 17 parts, column by column
 unfoldable pub parts_of : List Part → Columns

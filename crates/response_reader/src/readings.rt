@@ -1,10 +1,11 @@
-ghost use Rattle.std.specs.Prelude.{◌≡◌, true, false, ◌||◌, [], ◌∷◌};
+ghost use Rattle.std.specs.Prelude.{◌≡◌, ◌+◌, ◌<◌, true, false, ◌||◌, List, [], ◌∷◌, ◌++◌};
 ghost use Rattle.model.specs.Lists.{any};
 ghost use Rattle.model.specs.Tlv.{signature, certificate, full, surrogate};
 ghost use Rattle.model.specs.Layouts.{reads};
 ghost use Rattle.model.specs.Commands.{name_list};
-ghost use Rattle.model.specs.Reader.{registered, signed, list_lengths, field_parts, is_response, read_response};
-ghost use Rattle.response_reader.specs.Readings.{columns, parts_of, left, reading_of};
+ghost use Rattle.model.specs.Reader.{Part, registered, signed, list_lengths, field_parts, is_response, read_response};
+ghost use Rattle.response_reader.specs.Readings.{held, Same, parts_of, left, reading_of};
+ghost use Rattle.response_reader.specs.Met.{part_at};
 ghost use Rattle.response_reader.specs.Laid.{status_row, info_rows};
 
 use crate::shapes::is_response;
@@ -15,76 +16,55 @@ use tlv::numbers::get16;
 // The most fields that a response has.
 pub const MOST_FIELDS: usize = 17;
 
-// The column of nine numbers, more than which only a list of names has. Entries past them are 0.
-fn padded(
-    one: usize,
-    two: usize,
-    three: usize,
-    four: usize,
-    five: usize,
-    six: usize,
-    seven: usize,
-    eight: usize,
-    nine: usize,
-) -> [usize; MOST_FIELDS]
-    ensures { result ≡ (one ∷ two ∷ three ∷ four ∷ five ∷ six ∷ seven ∷ eight ∷ nine ∷ 0 ∷ 0 ∷ 0 ∷ 0 ∷ 0 ∷ 0 ∷ 0 ∷ 0 ∷ []) }
-{
-    [
-        one, two, three, four, five, six, seven, eight, nine, 0, 0, 0, 0, 0, 0, 0, 0,
-    ]
+// The caller's columns: of each field its tag, its value's place and its value's length. Entries past their number are 0.
+#[derive(Drop)]
+struct Columns<'a> {
+    tags: &'a mut [usize; MOST_FIELDS],
+    places: &'a mut [usize; MOST_FIELDS],
+    lengths: &'a mut [usize; MOST_FIELDS],
+    count: usize,
 }
 
-// The columns of a status alone.
-fn status_field(
-    tags: &mut [usize; MOST_FIELDS],
-    places: &mut [usize; MOST_FIELDS],
-    lengths: &mut [usize; MOST_FIELDS],
-) -> usize
-    ensures { columns tags.new places.new lengths.new result ≡ parts_of (status_row ∷ []) }
-{
-    *tags = [0usize; MOST_FIELDS];
-    *places = [0usize; MOST_FIELDS];
-    *lengths = [0usize; MOST_FIELDS];
-    tags[0] = tags::STATUS_CODE;
-    places[0] = 8;
-    lengths[0] = 2;
-    1
+impl Columns<'_> {
+    // A field more.
+    fn push(&mut self, tag: usize, place: usize, len: usize)
+        requires { self.old.count < 17 }
+        ensures same { Same self.old self.new }
+        ensures counted { self.new.count ≡ self.old.count + 1 }
+        ensures more { (ps : List Part) → held self.old ≡ parts_of ps → held self.new ≡ parts_of (ps ++ part_at tag place len ∷ []) }
+    {
+        self.tags[self.count] = tag;
+        self.places[self.count] = place;
+        self.lengths[self.count] = len;
+        self.count += 1;
+    }
 }
 
-// The columns of GetInfo's response. Each of its fields has one length, and so no byte is looked at.
-fn info_fields(
-    tags: &mut [usize; MOST_FIELDS],
-    places: &mut [usize; MOST_FIELDS],
-    lengths: &mut [usize; MOST_FIELDS],
-) -> usize
-    ensures { columns tags.new places.new lengths.new result ≡ parts_of info_rows }
+// The fields of GetInfo's response after the status. Each of its fields has one length, and so no byte is looked at.
+fn info_fields(columns: &mut Columns)
+    requires begun { held columns.old ≡ parts_of (status_row ∷ []) }
+    requires one { columns.old.count ≡ 1 }
+    ensures same { Same columns.old columns.new }
+    ensures listed { held columns.new ≡ parts_of info_rows }
 {
-    *tags = padded(
-        tags::STATUS_CODE,
-        tags::API_VERSION,
-        tags::AUTHENTICATOR_INDEX,
-        tags::AAID,
-        tags::METADATA,
-        tags::TC_DISPLAY_CONTENT_TYPE,
-        tags::ASSERTION_SCHEME,
-        tags::ATTESTATION_TYPE,
-        tags::ATTESTATION_TYPE,
-    );
-    *places = padded(8, 14, 23, 28, 41, 60, 74, 86, 92);
-    *lengths = padded(2, 1, 1, 9, 15, 10, 8, 2, 2);
-    9
+    columns.push(tags::API_VERSION, 14, 1);
+    columns.push(tags::AUTHENTICATOR_INDEX, 23, 1);
+    columns.push(tags::AAID, 28, 9);
+    columns.push(tags::METADATA, 41, 15);
+    columns.push(tags::TC_DISPLAY_CONTENT_TYPE, 60, 10);
+    columns.push(tags::ASSERTION_SCHEME, 74, 8);
+    columns.push(tags::ATTESTATION_TYPE, 86, 2);
+    columns.push(tags::ATTESTATION_TYPE, 92, 2);
 }
 
-// The columns of a completed registration. Read are the lengths of challenge hash, public key and signature, and KRD's; all others are known, and a
+// The fields of a completed registration. Read are the lengths of challenge hash, public key and signature, and KRD's; all others are known, and a
 // certificate reaches to the end.
-fn registered_fields(
-    s: &[u8],
-    tags: &mut [usize; MOST_FIELDS],
-    places: &mut [usize; MOST_FIELDS],
-    lengths: &mut [usize; MOST_FIELDS],
-) -> usize
-    requires { (reads (registered full (signature ∷ certificate ∷ [])) s.now || reads (registered surrogate (signature ∷ [])) s.now) ≡ true }
-    ensures { columns tags.new places.new lengths.new result ≡ parts_of (field_parts s.now) }
+fn registered_fields(s: &[u8], columns: &mut Columns)
+    requires form { (reads (registered full (signature ∷ certificate ∷ [])) s.now || reads (registered surrogate (signature ∷ [])) s.now) ≡ true }
+    requires begun { held columns.old ≡ parts_of (status_row ∷ []) }
+    requires one { columns.old.count ≡ 1 }
+    ensures same { Same columns.old columns.new }
+    ensures listed { held columns.new ≡ parts_of (field_parts s.now) }
 {
     let hash_len = get16(s, 48);
     let id = 50 + hash_len + 4;
@@ -95,38 +75,26 @@ fn registered_fields(
     let sig_len = get16(s, next + 2);
     let sig = next + 4;
     let end = sig + sig_len;
-    *tags = padded(
-        tags::STATUS_CODE,
-        tags::AAID,
-        tags::ASSERTION_INFO,
-        tags::FINAL_CHALLENGE_HASH,
-        tags::KEYID,
-        tags::COUNTERS,
-        tags::PUB_KEY,
-        tags::SIGNATURE,
-        0,
-    );
-    *places = padded(8, 26, 39, 50, id, counts, key, sig, 0);
-    *lengths = padded(2, 9, 7, hash_len, 32, 8, key_len, sig_len, 0);
-    if end == s.len() {
-        return 8;
+    columns.push(tags::AAID, 26, 9);
+    columns.push(tags::ASSERTION_INFO, 39, 7);
+    columns.push(tags::FINAL_CHALLENGE_HASH, 50, hash_len);
+    columns.push(tags::KEYID, id, 32);
+    columns.push(tags::COUNTERS, counts, 8);
+    columns.push(tags::PUB_KEY, key, key_len);
+    columns.push(tags::SIGNATURE, sig, sig_len);
+    if end != s.len() {
+        columns.push(tags::CERT, end + 4, s.len() - (end + 4));
     }
-    tags[8] = tags::CERT;
-    places[8] = end + 4;
-    lengths[8] = s.len() - (end + 4);
-    9
 }
 
-// The columns of a completed Sign. Read are the lengths of nonce, challenge hash and content hash, and SIGNED_DATA's; the signature reaches to the
+// The fields of a completed Sign. Read are the lengths of nonce, challenge hash and content hash, and SIGNED_DATA's; the signature reaches to the
 // end.
-fn signed_fields(
-    s: &[u8],
-    tags: &mut [usize; MOST_FIELDS],
-    places: &mut [usize; MOST_FIELDS],
-    lengths: &mut [usize; MOST_FIELDS],
-) -> usize
-    requires { (reads (signed true) s.now || reads (signed false) s.now) ≡ true }
-    ensures { columns tags.new places.new lengths.new result ≡ parts_of (field_parts s.now) }
+fn signed_fields(s: &[u8], columns: &mut Columns)
+    requires form { (reads (signed true) s.now || reads (signed false) s.now) ≡ true }
+    requires begun { held columns.old ≡ parts_of (status_row ∷ []) }
+    requires one { columns.old.count ≡ 1 }
+    ensures same { Same columns.old columns.new }
+    ensures listed { held columns.new ≡ parts_of (field_parts s.now) }
 {
     let nonce_len = get16(s, 46);
     let hash_len = get16(s, 48 + nonce_len + 2);
@@ -136,75 +104,57 @@ fn signed_fields(
     let id = shown + shown_len + 4;
     let counts = id + 32 + 4;
     let sig = 22 + get16(s, 20) + 4;
-    let sig_len = s.len() - sig;
-    *tags = padded(
-        tags::STATUS_CODE,
-        tags::AAID,
-        tags::ASSERTION_INFO,
-        tags::NONCE,
-        tags::FINAL_CHALLENGE_HASH,
-        tags::TRANSACTION_CONTENT_HASH,
-        tags::KEYID,
-        tags::COUNTERS,
-        tags::SIGNATURE,
-    );
-    *places = padded(8, 26, 39, 48, hash, shown, id, counts, sig);
-    *lengths = padded(2, 9, 5, nonce_len, hash_len, shown_len, 32, 4, sig_len);
-    9
+    columns.push(tags::AAID, 26, 9);
+    columns.push(tags::ASSERTION_INFO, 39, 5);
+    columns.push(tags::NONCE, 48, nonce_len);
+    columns.push(tags::FINAL_CHALLENGE_HASH, hash, hash_len);
+    columns.push(tags::TRANSACTION_CONTENT_HASH, shown, shown_len);
+    columns.push(tags::KEYID, id, 32);
+    columns.push(tags::COUNTERS, counts, 4);
+    columns.push(tags::SIGNATURE, sig, s.len() - sig);
 }
 
-// The columns of a list of names: the status, and two rows for each pair.
-fn name_fields(
-    s: &[u8],
-    tags: &mut [usize; MOST_FIELDS],
-    places: &mut [usize; MOST_FIELDS],
-    lengths: &mut [usize; MOST_FIELDS],
-) -> usize
-    requires { any (λ n. reads (name_list n) s.now) list_lengths ≡ true }
-    ensures { columns tags.new places.new lengths.new result ≡ parts_of (field_parts s.now) }
+// The fields of a list of names: two for each pair.
+fn name_fields(s: &[u8], columns: &mut Columns)
+    requires form { any (λ n. reads (name_list n) s.now) list_lengths ≡ true }
+    requires begun { held columns.old ≡ parts_of (status_row ∷ []) }
+    requires one { columns.old.count ≡ 1 }
+    ensures same { Same columns.old columns.new }
+    ensures listed { held columns.new ≡ parts_of (field_parts s.now) }
 {
-    let mut len = status_field(tags, places, lengths);
     let mut at = 10;
     while at < s.len() {
         let n = get16(s, at + 4 + 2);
         let name = at + 4 + 4;
-        tags[len] = tags::USERNAME;
-        places[len] = name;
-        lengths[len] = n;
-        tags[len + 1] = tags::KEYHANDLE;
-        places[len + 1] = name + n + 4;
-        lengths[len + 1] = 32;
-        len += 2;
+        columns.push(tags::USERNAME, name, n);
+        columns.push(tags::KEYHANDLE, name + n + 4, 32);
         at = at + 4 + get16(s, at + 2);
     }
-    len
 }
 
-// Of each field of a response the tag, the value's place and the value's length, and their number. Entries past it are 0. Once a stretch is a
-// response, its shape says where its fields stand.
-fn parts_in(
-    s: &[u8],
-    tags: &mut [usize; MOST_FIELDS],
-    places: &mut [usize; MOST_FIELDS],
-    lengths: &mut [usize; MOST_FIELDS],
-) -> usize
-    requires { is_response s.now ≡ true }
-    ensures { columns tags.new places.new lengths.new result ≡ parts_of (field_parts s.now) }
+// The fields of a response. Its shape says where they stand.
+fn list_fields(s: &[u8], columns: &mut Columns)
+    requires form { is_response s.now ≡ true }
+    requires begun { held columns.old ≡ parts_of [] }
+    requires none { columns.old.count ≡ 0 }
+    ensures same { Same columns.old columns.new }
+    ensures listed { held columns.new ≡ parts_of (field_parts s.now) }
 {
+    columns.push(tags::STATUS_CODE, 8, 2);
     if s.len() == 10 {
-        return status_field(tags, places, lengths);
+        return;
     }
     let tag = get16(s, 0);
     if tag == tags::GETINFO_CMD_RESPONSE {
-        return info_fields(tags, places, lengths);
+        return info_fields(columns);
     }
     if tag == tags::REGISTER_CMD_RESPONSE {
-        return registered_fields(s, tags, places, lengths);
+        return registered_fields(s, columns);
     }
     if get16(s, 10) == tags::AUTHENTICATOR_ASSERTION {
-        return signed_fields(s, tags, places, lengths);
+        return signed_fields(s, columns);
     }
-    name_fields(s, tags, places, lengths)
+    name_fields(s, columns);
 }
 
 // What the second call gives beside the columns: the response tag, the status and the number of fields.
@@ -229,10 +179,19 @@ pub fn read_fields(
     if !is_response(s) {
         return Err(Refusal::NotWritten);
     }
-    let count = parts_in(s, tags, places, lengths);
+    *tags = [0; MOST_FIELDS];
+    *places = [0; MOST_FIELDS];
+    *lengths = [0; MOST_FIELDS];
+    let mut columns = Columns {
+        tags,
+        places,
+        lengths,
+        count: 0,
+    };
+    list_fields(s, &mut columns);
     Ok(Reading {
         tag: get16(s, 0),
         status: get16(s, 8),
-        count,
+        count: columns.count,
     })
 }

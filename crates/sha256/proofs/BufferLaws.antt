@@ -1,11 +1,17 @@
 -- The buffer: bytes with zeros behind them, and what is put there.
-use Rattle.std.proofs.Common.{◌≡◌, ℕ, zero, suc, ◌+◌, ◌-◌, ◌*◌, ◌<◌, ◌≤◌, List, [], ◌∷◌, ◌++◌, length, get_or, take, drop, set, replicate, sym, refl, ap, ◌∙◌, ap₂, append_assoc, append-nil, add-one, div-one, arith, take-suc-set, take_at, length-append, length-take-le, get_or-append-add, drop_at}
+use Rattle.std.proofs.Common.{◌≡◌, ℕ, zero, suc, ◌+◌, ◌-◌, ◌*◌, ◌<◌, ◌≤◌, List, [], ◌∷◌, ◌++◌, length, get_or, take, drop, set, replicate, sym, refl, ap, ◌∙◌, ap₂, append_assoc, append-nil, add-one, div-one, arith, take_at, subst, length-append, length-take-le, get_or-append-add, drop_at}
 use lib.ListN.{drop_of_length-le, length-replicate, replicate-append-replicate}
 use borrow.Rule.Slice.PartMut.{put_mid}
 use Rattle.std.specs.Int.{w32, w64, to_be_bytes}
 use Rattle.model.specs.Sha256.{be}
 use Rattle.tlv.specs.Firsts.{firsts}
-use Rattle.tlv.proofs.FirstLaws.{firsts-over}
+use Rattle.tlv.proofs.FirstLaws.{firsts-over, length-firsts}
+use Rattle.std.proofs.lemmas.List.{ext_get_or}
+use Rattle.std.specs.Array.{IsFromFnResult, IsFromFnResultFrom}
+use denote.Param.Members.{Mut, Called}
+use lib.Dec.{leb}
+use borrow.Author.Tests.{leb-true, leb-false}
+use Rattle.model.proofs.Basics.{split}
 
 -- ---- zeros
 
@@ -47,16 +53,28 @@ set_behind (suc n) v (x ∷ m) h = ap (λ (l : List ℕ). x ∷ l) (set_behind n
 pub set_filled : (n : ℕ) (m : List ℕ) (at v : ℕ) → length m ≡ at → at < n → set (firsts 0 n m) at v ≡ firsts 0 n (m ++ (v ∷ []))
 set_filled n m at v e h = ap (λ (i : ℕ). set (firsts 0 n m) i v) (sym e) ∙ set_behind n v m (omega arith)
 
--- one byte more of a list
-firsts_more : (n : ℕ) (l : List ℕ) → firsts 0 (suc n) l ≡ firsts 0 n l ++ (get_or l n 0 ∷ [])
+firsts_at : (n : ℕ) (l : List ℕ) (i : ℕ) → i < n → get_or (firsts 0 n l) i 0 ≡ get_or l i 0
 unfolding firsts
-firsts_more zero [] = refl
-firsts_more zero (x ∷ l) = refl
-firsts_more (suc n) [] = ap (λ (l : List ℕ). 0 ∷ l) (firsts_more n [])
-firsts_more (suc n) (x ∷ l) = ap (λ (l : List ℕ). x ∷ l) (firsts_more n l)
+firsts_at zero l i h = absurd (omega arith)
+firsts_at (suc n) [] zero h = refl
+firsts_at (suc n) [] (suc i) h = firsts_at n [] i (omega arith)
+firsts_at (suc n) (x ∷ l) zero h = refl
+firsts_at (suc n) (x ∷ l) (suc i) h = firsts_at n l i (omega arith)
 
-pub joined_next : (d l : List ℕ) (i v : ℕ) → i < length d → take i d ≡ firsts 0 i l → v ≡ get_or l i 0 → take (i + 1) (set d i v) ≡ firsts 0 (i + 1) l
-joined_next d l i v h e f = rw (add-one, take-suc-set d i v h, e, f) (sym (firsts_more i l))
+-- an array that is made by calls, each of which gives the byte that stands there
+module _ {F : Type 0} (g : Mut F (ℕ × Unit {0}) ℕ) (l : List ℕ) (f : F) (step : (i y : ℕ) (q : F) → Called g f (i, tt) y q → (y ≡ get_or l i 0) × (q ≡ f)) where
+  made_from : (d : List ℕ) (n i k : ℕ) → IsFromFnResultFrom g f d i n → i ≤ k → k < i + n → get_or d k 0 ≡ get_or l k 0
+  made_from d zero i k c h u = absurd (omega arith)
+  made_from d (suc n) i k (q, y, at, called, rest) h u =
+      let s = step i y q called in
+      split (leb (suc i) k)
+      (λ e. made_from d n (i + 1) k (subst (λ (p : F). IsFromFnResultFrom g p d (i + 1) n) s.1 rest) (omega (arith, leb-true (suc i) k e)) (omega arith))
+      (λ e. let m : k ≡ i = omega (arith, leb-false (suc i) k e) in rw m (at.1 0 ∙ s.0))
+
+  pub made : (n : ℕ) (d : List ℕ) → IsFromFnResult g f d n → d ≡ firsts 0 n l
+  made n d r =
+      ext_get_or 0 d (firsts 0 n l) (r.long ∙ sym (length-firsts 0 n l))
+      (λ i h. made_from d n 0 i r.each (omega arith) (omega (arith, r.long)) ∙ sym (firsts_at n l i (omega (arith, r.long))))
 
 -- where the byte stands
 pub in_second : (x y : List ℕ) (i : ℕ) → length x ≤ i → get_or (x ++ y) i 0 ≡ get_or y (i - length x) 0

@@ -33,7 +33,7 @@ static TABLE: [u32; 64] = [
     0x748f82ee, 0x78a5636f, 0x84c87814, 0x8cc70208, 0x90befffa, 0xa4506ceb, 0xbef9a3f7, 0xc67178f2,
 ];
 
-// The table. It is a `static`, which is lent: a `const` array that is indexed is built anew at each use.
+// The table, lent from where it lies.
 pub fn constants() -> &'static [u32; 64]
     ensures { result.now ≡ model.K }
 {

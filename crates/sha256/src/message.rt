@@ -6,6 +6,7 @@ ghost use Rattle.sha256.specs.Views.{view};
 
 use crate::block::{blocks, compress, initial};
 use crate::words::Words;
+use std::array;
 
 // The byte at place i of two runs of bytes one after the other; behind them zeros.
 fn byte_of(x: &[u8], y: &[u8], i: usize) -> u8
@@ -22,11 +23,7 @@ fn byte_of(x: &[u8], y: &[u8], i: usize) -> u8
 fn joined(x: &[u8], y: &[u8]) -> [u8; 64]
     ensures { result ≡ firsts 0 64 (x.now ++ y.now) }
 {
-    let mut d = [0u8; 64];
-    for (i, byte) in d.iter_mut().enumerate() {
-        *byte = byte_of(x, y, i);
-    }
-    d
+    array::from_fn(|i| byte_of(x, y, i))
 }
 
 // What is left, less than a block, with the padding of a message of `total` bytes.

@@ -3,7 +3,7 @@ ghost use Rattle.std.specs.Prelude.{◌≡◌};
 ghost use Rattle.model.specs.Sha256 as model;
 ghost use Rattle.sha256.specs.Views.{view};
 
-// The eight words of a hash value, and the eight working variables.
+// The eight words of a hash value, and the eight working variables: fields and no array, since the standard and the definitions name them a to h.
 #[derive(Clone, Copy)]
 pub struct Words {
     pub a: u32,
@@ -16,12 +16,14 @@ pub struct Words {
     pub h: u32,
 }
 
-// The sum modulo 2^32.
+// The sum modulo 2^32: the library's method, promised by the definitions' sign for it, by which the sums of a step are compared.
 pub fn add(x: u32, y: u32) -> u32
     ensures { result ≡ model.◌⊞◌ x y }
 {
     x.wrapping_add(y)
 }
+
+// Each function of the standard stands by itself under a name of its own, so that it can be read beside the standard's.
 
 // The bits of y where x has a one, and of z where it has none.
 fn ch(x: u32, y: u32, z: u32) -> u32

@@ -4,13 +4,15 @@ use mathlib.Core.Path.{◌≡◌, refl, sym, ap, ◌∙◌}
 use mathlib.Core.List.{List, [], ◌∷◌}
 use Prim.Native.Nat.{ℕ, zero, suc, ◌+◌, ◌-◌, ◌*◌, ◌^◌, ◌≤◌, ◌<◌}
 use native.Mathlib.Nat.{zero-add, suc-add, mul-zero, mul-suc, one-mul, mul_assoc, pow-zero, pow-succ', mul-le-mul_left}
+use native.Mathlib.Numerals.{add-one}
 use native.Mathlib.Omega.{arith}
 use lib.ListN.{length, get_or, take, drop, length-drop}
-use lib.Seq.{length-take-le, take-nil, take-take, drop-cons, drop-drop}
+use lib.Seq.{length-take-le, take-nil, take-take, drop-drop}
 use lib.Dec.{eqb}
 use mir.Syntax.{w8}
 use mir.Val.{Fits}
 use borrow.Author.Tests.{eq-eqb, ne_eqb}
+use Rattle.std.specs.Int.{sum_through, byte_worth}
 use Rattle.model.specs.Lists.{eq_bytes}
 use Rattle.model.specs.Tlv.{Bytes, num, le}
 use Rattle.model.proofs.Basics.{split, clash, eq_bytes-eq, eq_bytes-same}
@@ -40,10 +42,26 @@ number-add a b {s} {at} {x} {y} p q =
       small = rw pow-add (omega (arith, rw mul-suc at fits, p.small));
     }
 
--- a byte is a number of one byte
-pub number_byte : (s : List ℕ) (at : ℕ) {r : ℕ} → at < length s → r ≡ get_or s at 0 → r < 256 → NumberAt 1 s at r
-unfolding num_at num
-number_byte s at h e k = record { value = e ∙ sym (rw (drop-cons s at 0 h) (omega arith)); small = k }
+-- ---- as the library reads it
+
+-- a byte is the number that it spells
+num-one : (i : ℕ) (s : List ℕ) → num (take 1 (drop i s)) ≡ get_or s i 0
+unfolding num
+num-one zero [] = refl
+num-one zero (x ∷ s) = omega arith
+num-one (suc i) [] = refl
+num-one (suc i) (x ∷ s) = num-one i s
+
+-- the library's sum of bytes 0 to k, each by its worth
+spelt : (k : ℕ) (s : List ℕ) → sum_through (λ i. byte_worth i (get_or s i 0)) k ≡ num (take (suc k) s)
+spelt zero s = sym (num-one 0 s)
+spelt (suc k) s = rw (← add-one (suc k), num-take-add (suc k) 1 s, num-one (suc k) s, spelt k s) (omega arith)
+
+pub number_read : (k : ℕ) {s b : List ℕ} {at r : ℕ} → b ≡ take (suc k) (drop at s) → r ≡ sum_through (λ i. byte_worth i (get_or b i 0)) k
+    → r < 256 ^ suc k → NumberAt (suc k) s at r
+unfolding num_at
+number_read k {s} {b} {at} e v h =
+    record { value = v ∙ spelt k b ∙ rw (e, take-take (suc k) (suc k) (drop at s) (omega arith)); small = h }
 
 -- ---- the bytes of a number, and bytes that are the same
 

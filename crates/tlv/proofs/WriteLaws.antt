@@ -8,6 +8,7 @@ use native.Mathlib.Numerals.{add-one}
 use native.Mathlib.Omega.{arith}
 use lib.ListN.{length, get_or, take, drop, set, length-append, length-drop, take-append-drop}
 use lib.Seq.{take-length, take-take, take-add, take-append-add, paste, paste-suc, take-paste, drop-paste, take_at, drop_at, length-take-le, drop-drop, sets, sets-eq}
+use borrow.Rule.Slice.PartMut.{put_mid, Post-is}
 use Rattle.model.specs.Tlv.{Tlv, tlv, header, bytes}
 use Rattle.model.proofs.Tlvs.{bytes-append, bytes_one}
 use Rattle.tlv.specs.Writing.{splice, Wrote}
@@ -85,6 +86,13 @@ module _ {d d₁ d₂ v : List ℕ} {at n r₁ r₂ : ℕ} (tag : ℕ) where
   -- a header, and a value of the length that it says
   pub then_value : Wrote d at (header tag n) 4 d₁ r₁ → Wrote d₁ r₁ v n d₂ r₂ → Wrote d at (bytes (tlv tag v ∷ [])) (4 + n) d₂ r₂
   then_value p q = same (sym (bytes_one tag n v q.size)) refl (then p q)
+
+-- a copy of xs into a part of a stretch
+pub wrote_part : (d : List ℕ) (at n : ℕ) {m xs : List ℕ} → at + n ≤ length d → length xs ≡ n → m ≡ xs
+    → Wrote d at xs n (put_mid at (at + n - at) d m) (at + n)
+wrote_part d at n h k e =
+    let w : at ≤ at + n = omega arith in
+    record { size = k; room = h; next = refl; bytes = rw (e, Post-is at (at + n) d w, k) }
 
 -- ---- stores one after the other
 

@@ -1,4 +1,4 @@
-ghost use Rattle.std.specs.Prelude.{◌≡◌, ◌+◌, ◌≤◌, ◌<◌, [], ◌∷◌, length};
+ghost use Rattle.std.specs.Prelude.{◌≡◌, ◌+◌, ◌≤◌, ◌<◌, [], ◌∷◌, length, take, drop};
 ghost use Rattle.model.specs.Tlv.{le};
 ghost use Rattle.tlv.specs.Numbers.{NumberAt};
 ghost use Rattle.tlv.specs.Writing.{Wrote};
@@ -7,7 +7,17 @@ ghost use Rattle.tlv.specs.Writing.{Wrote};
 pub fn wide(x: u8) -> usize
     ensures { (result ≡ x) × (result < 256) }
 {
-    x as usize
+    usize::from(x)
+}
+
+// The W bytes at a place.
+fn bytes_at<const W: usize>(s: &[u8], at: usize) -> [u8; W]
+    requires { at + W ≤ length s.now }
+    ensures { result ≡ take W (drop at s.now) }
+{
+    let mut b = [0; W];
+    b.copy_from_slice(&s[at..at + W]);
+    b
 }
 
 // The 16-bit number at a place.
@@ -15,7 +25,7 @@ pub fn get16(s: &[u8], at: usize) -> usize
     requires { at + 2 ≤ length s.now }
     ensures { NumberAt 2 s.now at result }
 {
-    wide(s[at]) + 256 * wide(s[at + 1])
+    usize::from(u16::from_le_bytes(bytes_at(s, at)))
 }
 
 // The 32-bit number at a place.
@@ -23,7 +33,7 @@ pub fn get32(s: &[u8], at: usize) -> usize
     requires { at + 4 ≤ length s.now }
     ensures { NumberAt 4 s.now at result }
 {
-    get16(s, at) + 65536 * get16(s, at + 2)
+    u32::from_le_bytes(bytes_at(s, at)) as usize
 }
 
 // The 64-bit number at a place.
@@ -31,16 +41,7 @@ pub fn get64(s: &[u8], at: usize) -> usize
     requires { at + 8 ≤ length s.now }
     ensures { NumberAt 8 s.now at result }
 {
-    get32(s, at) + 4294967296 * get32(s, at + 4)
-}
-
-// The two lowest bytes of a length or a tag, the lowest first: the one place that splits a number into bytes. By a shift and masks, since division is
-// dear on the terminal's processor.
-fn split(n: usize) -> [u8; 2]
-    ensures { result ≡ le 2 n }
-{
-    let high = n >> 8;
-    [(n & 0xff) as u8, (high & 0xff) as u8]
+    usize::from_le_bytes(bytes_at(s, at))
 }
 
 // Writes a byte.
@@ -52,31 +53,36 @@ pub fn put8(out: &mut [u8], at: usize, b: u8) -> usize
     at + 1
 }
 
+// Writes the W lowest bytes of a number, the lowest first.
+fn put<const W: usize>(out: &mut [u8], at: usize, n: usize) -> usize
+    requires { (W ≤ 8) × (at + W ≤ length out.old) }
+    ensures { Wrote out.old at (le W n) W out.new result }
+{
+    let b = n.to_le_bytes();
+    out[at..at + W].copy_from_slice(&b[..W]);
+    at + W
+}
+
 // Writes a number in two bytes.
 pub fn put16(out: &mut [u8], at: usize, n: usize) -> usize
     requires { at + 2 ≤ length out.old }
     ensures { Wrote out.old at (le 2 n) 2 out.new result }
 {
-    let b = split(n);
-    out[at] = b[0];
-    out[at + 1] = b[1];
-    at + 2
+    put::<2>(out, at, n)
 }
 
-// Writes a number in four bytes, its low half first.
+// Writes a number in four bytes.
 pub fn put32(out: &mut [u8], at: usize, n: usize) -> usize
     requires { at + 4 ≤ length out.old }
     ensures { Wrote out.old at (le 4 n) 4 out.new result }
 {
-    let mid = put16(out, at, n);
-    put16(out, mid, n >> 16)
+    put::<4>(out, at, n)
 }
 
-// Writes a number in eight bytes, its low half first.
+// Writes a number in eight bytes.
 pub fn put64(out: &mut [u8], at: usize, n: usize) -> usize
     requires { at + 8 ≤ length out.old }
     ensures { Wrote out.old at (le 8 n) 8 out.new result }
 {
-    let mid = put32(out, at, n);
-    put32(out, mid, n / 4294967296)
+    put::<8>(out, at, n)
 }

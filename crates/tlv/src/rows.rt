@@ -168,17 +168,6 @@ impl<'a> Rows<'a> {
         let marks = &all[..self.places.len()];
         self.few_by(most, |i| self.is_often_marked(i, most, marks))
     }
-
-    // Whether each row stands there at most `most` times. The marks pay where there are more than a few rows; there is room for 32.
-    fn few_among(&self, most: usize) -> bool
-        ensures { result ≡ each_few most (rows_of self.now) }
-    {
-        if 4 < self.places.len() && self.places.len() <= 32 {
-            self.few_by_marks(most)
-        } else {
-            self.few_by_rows(most)
-        }
-    }
 }
 
 // How many of the rows from a place on are v.
@@ -208,14 +197,31 @@ pub fn is_among(s: &[u8], places: &[usize], off: usize, v: &[u8]) -> bool
         != 0
 }
 
-// Whether each row stands there at most `most` times. Nothing is called where there are no more rows than that: `few_among`, which two functions call,
-// stays a function of its own, and these two become parts of their callers.
+// Whether each row stands there at most `most` times. The marks pay where there are more than a few rows; there is room for 32.
+// The parameters come one by one, in registers: a `Rows` would go through memory.
+fn few_among(s: &[u8], places: &[usize], off: usize, most: usize) -> bool
+    requires { Within off places.now s.now }
+    ensures { result ≡ each_few most (rows off places.now s.now) }
+{
+    let rows = Rows {
+        stretch: s,
+        places,
+        off,
+    };
+    if 4 < places.len() && places.len() <= 32 {
+        rows.few_by_marks(most)
+    } else {
+        rows.few_by_rows(most)
+    }
+}
+
+// The same. Nothing is called where there are no more rows than that: `few_among`, which two functions call, stays a function of its own, and these
+// two become parts of their callers.
 pub fn each_few(s: &[u8], places: &[usize], off: usize, most: usize) -> bool
     requires { Within off places.now s.now }
     ensures { result ≡ each_few most (rows off places.now s.now) }
 {
-    let rows = Rows { stretch: s, places, off };
-    places.len() <= most || rows.few_among(most)
+    places.len() <= most || few_among(s, places, off, most)
 }
 
 // Whether no two rows are the same: each stands there at most once.
@@ -223,6 +229,5 @@ pub fn all_distinct(s: &[u8], places: &[usize], off: usize) -> bool
     requires { Within off places.now s.now }
     ensures { result ≡ distinct (rows off places.now s.now) }
 {
-    let rows = Rows { stretch: s, places, off };
-    places.len() <= 1 || rows.few_among(1)
+    places.len() <= 1 || few_among(s, places, off, 1)
 }

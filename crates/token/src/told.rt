@@ -1,17 +1,17 @@
 ghost use Rattle.std.specs.Prelude.{◌≡◌};
 ghost use Rattle.token.specs.Written.{code_of, length_after};
 
-use fields::refusals::Written;
+use fields::refusals::Refusal;
 
 // What the firmware is told of a function with one output: the refusal number; or 0, and the length of what was written, which goes into len.
-pub fn tell(done: Written, len: &mut usize) -> u32
+pub fn tell(done: Result<usize, Refusal>, len: &mut usize) -> u32
     ensures { (result ≡ code_of done) × (len.new ≡ length_after done len.old) }
 {
     match done {
-        Written::Refused(n) => n,
-        Written::Wrote(n) => {
+        Ok(n) => {
             *len = n;
             0
         }
+        Err(refusal) => u32::from(refusal),
     }
 }

@@ -4,8 +4,10 @@ ghost use Rattle.model.specs.Writer.{write_command, to_get_info, to_register, to
 ghost use Rattle.token.specs.Written.{wrote, returned_bytes};
 
 use crate::told::tell;
+use command_writer::marked::Marked;
 use command_writer::writers::{
-    write_deregister, write_get_info, write_open_settings, write_register, write_sign,
+    Deregister, Register, Sign, write_deregister, write_get_info, write_open_settings,
+    write_register, write_sign,
 };
 
 // Writes GetInfo.
@@ -39,17 +41,21 @@ pub fn uaf_write_register(
         (length command.old))
         (wrote 0 command_len.old command.old) }
 {
-    let done = write_register(
-        app_id_given,
-        app_id,
+    let fields = Register {
+        app_id: Marked {
+            mark: app_id_given,
+            value: app_id,
+        },
         challenge,
         username,
         attestation,
         access_token,
-        verify_token_given,
-        verify_token,
-        command,
-    );
+        verify_token: Marked {
+            mark: verify_token_given,
+            value: verify_token,
+        },
+    };
+    let done = write_register(&fields, command);
     tell(done, command_len)
 }
 
@@ -76,19 +82,25 @@ pub fn uaf_write_sign(
         (length command.old))
         (wrote 0 command_len.old command.old) }
 {
-    let done = write_sign(
-        app_id_given,
-        app_id,
+    let fields = Sign {
+        app_id: Marked {
+            mark: app_id_given,
+            value: app_id,
+        },
         challenge,
-        content_given,
-        content,
+        content: Marked {
+            mark: content_given,
+            value: content,
+        },
         access_token,
-        verify_token_given,
-        verify_token,
+        verify_token: Marked {
+            mark: verify_token_given,
+            value: verify_token,
+        },
         handles,
         handle_sizes,
-        command,
-    );
+    };
+    let done = write_sign(&fields, command);
     tell(done, command_len)
 }
 
@@ -107,7 +119,15 @@ pub fn uaf_write_deregister(
         (length command.old))
         (wrote 0 command_len.old command.old) }
 {
-    let done = write_deregister(app_id_given, app_id, key_id, access_token, command);
+    let fields = Deregister {
+        app_id: Marked {
+            mark: app_id_given,
+            value: app_id,
+        },
+        key_id,
+        access_token,
+    };
+    let done = write_deregister(&fields, command);
     tell(done, command_len)
 }
 

@@ -7,19 +7,17 @@ use std::io;
 
 // Writes a digest and ends the line.
 fn write_line(rt: &impl Print, digest: [u8; 32]) -> io::Result<()> {
-    let mut i: usize = 0;
-    while i < 32 {
-        print!(rt; "{:02x}", digest[i])?;
-        i += 1;
+    for byte in digest {
+        print!(rt; "{byte:02x}")?;
     }
-    rt.write_all(b"\n")
+    println!(rt)
 }
 
 // Writes the digest of a message, and of its halves one after the other.
 fn show(rt: &impl Print, message: &[u8]) -> io::Result<()> {
     let half = message.len() / 2;
     write_line(rt, hash(message, b""))?;
-    write_line(rt, hash(&message[0..half], &message[half..]))
+    write_line(rt, hash(&message[..half], &message[half..]))
 }
 
 // The message of a million times the letter a.

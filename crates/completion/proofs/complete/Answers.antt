@@ -45,4 +45,5 @@ put_registration-len-requires c =
 
 pub returns-in-Registration : goal.returns-in-Registration
 returns-in-Registration c =
-    registration-ends (passes (goal.at.returns-in-Registration c).Else-not-completion_ok) (c.in_ok-kind.ensures ∙ ap kind_number c.in-Registration.is) c.put_registration-len.ensures
+    registration-ends (passes (goal.at.returns-in-Registration c).Else-not-completion_ok) (c.in_ok-kind.ensures ∙ ap kind_number c.in-Registration.is)
+    c.put_registration-len.ensures

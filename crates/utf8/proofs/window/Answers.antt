@@ -1,7 +1,6 @@
-use mathlib.Core.Path.{◌≡◌, refl}
-use native.Mathlib.Omega.{arith}
+use mathlib.Core.Path.{refl}
 use Rattle.utf8.specs.Places.{each}
-use Rattle.utf8.proofs.CodeLaws.{none_wrong, next_place}
+use Rattle.utf8.proofs.CodeLaws.{next_place}
 use Rattle.utf8.proofs.window.Goals as goal
 
 pub loop-i-init : goal.loop-i-init
@@ -10,8 +9,3 @@ loop-i-init c = refl
 
 pub loop-i-preserved : goal.loop-i-preserved
 loop-i-preserved c = next_place c.args.s.now c.args.at c.loop-i.i c.loop-i.invariant c.misplaced-wrong.ensures
-
-pub returns : goal.returns
-returns c =
-    let e : c.loop-i.i ≡ 16 = omega arith in
-    none_wrong _ (rw e at c.loop-i.invariant)

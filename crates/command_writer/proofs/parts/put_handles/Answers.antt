@@ -9,7 +9,5 @@ loop-i-init c = no_handles _ _ _ (omega (arith, c.requires))
 pub loop-i-preserved : goal.loop-i-preserved
 loop-i-preserved c =
     let i = c.loop-i.i in
-    let n = c.args.count in
     let hs = c.args.handles.now in
-    one_handle i hs c.loop-i.invariant _ (handle_part i n hs c.loop-i-test.true c.requires.0) (handle_size i n hs c.loop-i-test.true c.requires.0)
-    c.put_tlv-end.ensures
+    one_handle i hs c.loop-i.invariant _ (handle_part i hs c.loop-i-test.true) (handle_size i hs c.loop-i-test.true) c.put_tlv-end.ensures

@@ -5,7 +5,7 @@ use Rattle.commands.proofs.DecisionLaws.{info_checked, always-broken, always-giv
 use Rattle.commands.proofs.get_info.get_info.Goals as goal
 
 pub returns-then-params : goal.returns-then-params
-returns-then-params c = rw c.only.ensures (always-broken info_checked c.if-params.true)
+returns-then-params c = always-broken info_checked c.if-params.true
 
 pub returns : goal.returns
 unfolding answer_of

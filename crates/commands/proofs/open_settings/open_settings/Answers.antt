@@ -6,8 +6,8 @@ use Rattle.commands.proofs.DecisionLaws.{settings_checked, always-broken, always
 use Rattle.commands.proofs.open_settings.open_settings.Goals as goal
 
 pub returns-then-params : goal.returns-then-params
-returns-then-params c = rw c.only.ensures (always-broken settings_checked c.if-params.true)
+returns-then-params c = always-broken settings_checked c.if-params.true
 
 pub returns : goal.returns
 unfolding answer_of only
-returns c = rw c.only-2.ensures (always-given settings_checked c.if-params.false (λ s l t. refl) (λ s t c. tt))
+returns c = always-given settings_checked c.if-params.false (λ s l t. refl) (λ s t c. tt)

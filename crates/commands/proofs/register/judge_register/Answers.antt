@@ -1,6 +1,6 @@
 -- Register's first status: a rule broken, the verdict, the attestation type, a KeyID that is stored, then no place.
 use mathlib.Core.Path.{◌≡◌, sym, ◌∙◌}
-use mathlib.Core.Bool.{false}
+use mathlib.Core.Bool.{true, false, ◌||◌}
 use lib.Dec.{leb}
 use lib.ListN.{length}
 use native.Mathlib.Omega.{arith}
@@ -12,7 +12,7 @@ use Rattle.stored_table.specs.Stored.{table_in}
 use Rattle.stored_table.proofs.IndexLaws.{length-places}
 use Rattle.commands.proofs.JudgeLaws.{breaks_none, placed, type-inside, type_told, Admitted, admitted}
 use Rattle.commands.proofs.register.judge_register.Goals as goal
-use Rattle.commands.proofs.register.judge_register.Goals.{Else-is_stored, Else-not-is_supported, Else-own_count-ge-MAX_OWN}
+use Rattle.commands.proofs.register.judge_register.Goals.{Else-is_stored, Else-not-is_supported, Joined-then-own_count-ge-MAX_OWN, then-own_count-ge-MAX_OWN-via-then-own_count-ge-MAX_OWN, then-own_count-ge-MAX_OWN-via-else-own_count-ge-MAX_OWN+then-places-ge-MAX_RECORDS}
 
 pub returns-then-params : goal.returns-then-params
 unfolding judge register_checks
@@ -53,31 +53,38 @@ passed c =
 fresh : (c : Else-is_stored) → let a = c.args in among a.key_id.now (key_ids (table_in a.table.now)) ≡ false
 fresh c = sym c.is_stored.ensures ∙ c.if-is_stored.false
 
-few : (c : Else-own_count-ge-MAX_OWN) → let a = c.args in
-    leb 8 (length (own a.mixed.now (table_in a.table.now))) ≡ false
-few c = lt-leb _ _ (rw c.own_count.ensures at c.if-own_count-ge-MAX_OWN.false)
-
 pub returns-then-is_stored : goal.returns-then-is_stored
 returns-then-is_stored c =
     let p = passed (goal.at.returns-then-is_stored c).Else-not-is_supported in
     sym (admitted _ _ _ _ _ _ _ p ∙ rw (sym c.is_stored.ensures ∙ c.if-is_stored.true))
 
+-- no place: by the caller's records, or by how many places there are, which is how many records
+full : (c : Joined-then-own_count-ge-MAX_OWN) → let a = c.args in
+    (leb 8 (length (own a.mixed.now (table_in a.table.now))) || leb 32 (length (table_in a.table.now))) ≡ true
+full c =
+    elim c.then-own_count-ge-MAX_OWN.branch [
+      | then-own_count-ge-MAX_OWN-via-then-own_count-ge-MAX_OWN w ↦ rw (le-leb _ _ (rw c.own_count.ensures at w.if-own_count-ge-MAX_OWN.true))
+      | then-own_count-ge-MAX_OWN-via-else-own_count-ge-MAX_OWN+then-places-ge-MAX_RECORDS w ↦
+          rw (
+            lt-leb _ _ (rw c.own_count.ensures at w.if-own_count-ge-MAX_OWN.false),
+            ← length-places c.requires.indexed,
+            le-leb _ _ w.if-places-ge-MAX_RECORDS.true,
+          )
+    ]
+
 pub returns-then-own_count-ge-MAX_OWN : goal.returns-then-own_count-ge-MAX_OWN
 returns-then-own_count-ge-MAX_OWN c =
     let back = goal.at.returns-then-own_count-ge-MAX_OWN c in
-    let n = c.own_count.ensures in
     sym (admitted _ _ _ _ _ _ _ (passed back.Else-not-is_supported)
-    ∙ rw (fresh back.Else-is_stored, le-leb _ _ (rw n at c.if-own_count-ge-MAX_OWN.true)))
-
--- by how many places there are, which is how many records
-pub returns-then-places-ge-MAX_RECORDS : goal.returns-then-places-ge-MAX_RECORDS
-returns-then-places-ge-MAX_RECORDS c =
-    let back = goal.at.returns-then-places-ge-MAX_RECORDS c in
-    sym (admitted _ _ _ _ _ _ _ (passed back.Else-not-is_supported)
-    ∙ rw (fresh back.Else-is_stored, few back.Else-own_count-ge-MAX_OWN, ← length-places c.requires.indexed, le-leb _ _ c.if-places-ge-MAX_RECORDS.true))
+    ∙ rw (fresh back.Else-is_stored, full back.Joined-then-own_count-ge-MAX_OWN))
 
 pub returns : goal.returns
 returns c =
     let back = goal.at.returns c in
     sym (admitted _ _ _ _ _ _ _ (passed back.Else-not-is_supported)
-    ∙ rw (fresh back.Else-is_stored, few back.Else-own_count-ge-MAX_OWN, ← length-places c.requires.indexed, lt-leb _ _ c.if-places-ge-MAX_RECORDS.false))
+    ∙ rw (
+      fresh back.Else-is_stored,
+      lt-leb _ _ (rw c.own_count.ensures at c.if-own_count-ge-MAX_OWN.false),
+      ← length-places c.requires.indexed,
+      lt-leb _ _ c.if-places-ge-MAX_RECORDS.false,
+    ))

@@ -1,19 +1,14 @@
 -- A command that is too long, or whose TLV does not end with its bytes, breaks a rule; any other goes by its child run.
 use mathlib.Core.Path.{◌≡◌, sym, ◌∙◌}
 use mathlib.Core.Bool.{true}
-use Prim.Native.Nat.{◌≤◌}
-use lib.ListN.{length}
 use Rattle.model.specs.Tlv.{fills}
-use Rattle.params.proofs.ParseLaws.{rest_part, whole-place, broken_long, broken-cut, read_broken}
+use Rattle.params.proofs.ParseLaws.{rest_part, broken_long, broken-cut, read_broken}
 use Rattle.params.proofs.parse.params_of.Goals as goal
 use Rattle.params.proofs.parse.params_of.Goals.{Else-not-is_whole}
 
 -- the command's TLV ends with the lent bytes
 whole : (c : Else-not-is_whole) → fills c.args.s.now ≡ true
 whole c = sym c.is_whole.ensures ∙ c.if-not-is_whole.false
-
-place : (c : Else-not-is_whole) → 4 ≤ length c.args.s.now
-place c = whole-place c.args.s.now (whole c)
 
 pub returns-then-s-gt-MAX_COMMAND : goal.returns-then-s-gt-MAX_COMMAND
 returns-then-s-gt-MAX_COMMAND c = read_broken (broken_long _ _ c.if-s-gt-MAX_COMMAND.true) c.no_params.ensures

@@ -1,11 +1,7 @@
 -- The header says four bytes less than len, and the six fields take as many.
-use native.Mathlib.Omega.{arith}
 use Rattle.replies.proofs.WriterLaws.{wrote-krd}
 use Rattle.replies.proofs.drafts.put_krd.Goals as goal
 use Rattle.replies.proofs.drafts.put_krd.Goals.{After-out-4-1}
-
-pub put_tlv-requires : goal.put_tlv-requires
-put_tlv-requires c = omega (arith, (goal.at.put_tlv-requires c).After-out-4-1)
 
 pub returns : goal.returns
 returns c =

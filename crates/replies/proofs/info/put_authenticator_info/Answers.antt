@@ -1,17 +1,7 @@
 -- A header that says 75, and seven fields of together 75 bytes.
-use native.Mathlib.Omega.{arith}
 use Rattle.replies.proofs.WriterLaws.{wrote-inside}
 use Rattle.replies.proofs.info.put_authenticator_info.Goals as goal
 use Rattle.replies.proofs.info.put_authenticator_info.Goals.{After-out-5-1, After-put_tlv-arg-10-1, After-put_tlv-arg-6-1}
-
-pub put_tlv16-a7-requires : goal.put_tlv16-a7-requires
-put_tlv16-a7-requires c = omega (arith, (goal.at.put_tlv16-a7-requires c).After-put_tlv-arg-6-1)
-
-pub put_tlv16-requires : goal.put_tlv16-requires
-put_tlv16-requires c = omega (arith, (goal.at.put_tlv16-requires c).After-out-5-1)
-
-pub shape_of-out : goal.shape_of-out
-shape_of-out c = omega (arith, (goal.at.shape_of-out c).After-put_tlv-arg-10-1)
 
 pub returns : goal.returns
 returns c =

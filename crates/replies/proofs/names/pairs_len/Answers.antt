@@ -1,61 +1,37 @@
-use mathlib.Core.Path.{◌≡◌, refl, sym}
-use Prim.Native.Nat.{◌+◌, ◌≤◌, ◌<◌}
+-- Each record that is named has a place; and the sum is few bytes.
+use mathlib.Core.Path.{◌∙◌}
+use Prim.Native.Nat.{◌<◌}
 use native.Mathlib.Omega.{arith}
-use lib.ListN.{length, get_or, take}
-use lib.Seq.{take_all}
-use borrow.Author.Rules.{rules}
-use Rattle.stored_table.specs.Stored.{table_in}
-use Rattle.stored_table.specs.Chosen.{records_at}
-use Rattle.stored_table.proofs.IndexLaws.{few-places}
-use Rattle.replies.specs.Replies.{pairs_size}
-use Rattle.replies.proofs.PairLaws.{size-more, size-part, named-most, named-place, named-there}
+use lib.ListN.{length, get_or}
+use Rattle.std.proofs.Common.{rules, tests}
+use Rattle.std.proofs.lemmas.Iterator.{YieldsList-from_slice, YieldsList-from_map}
+use Rattle.std.proofs.lemmas.Iterator.Adapters.{serves_from_places}
+use Rattle.std.proofs.lemmas.Iterator.Consumers.{YieldsList-at, sum_by_from_yields_List, fits_by_from_yields_list}
+use Rattle.stored_table.specs.Stored.{Stands}
+use Rattle.replies.proofs.PairLaws.{named-most, pair_size, named_item, pairs-sum}
 use Rattle.replies.proofs.names.pairs_len.Goals as goal
-use Rattle.replies.proofs.names.pairs_len.Goals.{After-shared_slice_known-in-loop-i-1, After-name_len}
 
-pub loop-i-init : goal.loop-i-init
-loop-i-init c = (search rules, refl)
+pub sum-requires-clause-can : goal.sum-requires-clause-can
+sum-requires-clause-can c = (
+  tt,
+  serves_from_places (YieldsList-from_slice c.args.named.now cc) (λ x q k. search (rules, tests)) (λ x k h e.
+      let n = named_item c.requires.indexed c.requires.chosen_of x.now k h e in
+      let near = n.near in
+      let within : x.now < length c.map.result.f.1.now = rw c.map.ensures.closure n.within in
+      let stands : Stands c.map.result.f.0.now (get_or c.map.result.f.1.now x.now 0) = rw c.map.ensures.closure n.is.stands in
+      search (rules, tests)),
+)
 
--- the record at hand has a place
-place : (c : After-shared_slice_known-in-loop-i-1) → let a = c.args in
-    get_or a.named.now c.loop-i.i 0 < length a.places.now
-place c =
-    named-place c.requires.indexed c.requires.chosen_of c.loop-i.i c.loop-i-test.true
-
-pub offset_bounds-named-i : goal.offset_bounds-named-i
-offset_bounds-named-i c = omega (arith, c.requires.chosen_of.few)
-
-pub offset_bounds-places-record : goal.offset_bounds-places-record
-offset_bounds-places-record c = omega (arith, few-places c.requires.indexed, place c)
-
-pub name_len-requires : goal.name_len-requires
-name_len-requires c =
-    (named-there c.requires.indexed c.requires.chosen_of c.loop-i.i c.loop-i-test.true).stands
-
--- one record more is counted, and all are few
-counted : (c : After-name_len) → let a = c.args in
-    pairs_size (records_at (table_in a.table.now) (take (c.loop-i.i + 1) a.named.now)) ≡ c.loop-i.len + (44 + c.name_len.result)
-counted c =
-    let a = c.args in
-    let there = named-there c.requires.indexed c.requires.chosen_of c.loop-i.i c.loop-i-test.true in
-    omega (arith, c, size-more (table_in a.table.now) a.named.now c.loop-i.i c.loop-i-test.true there)
-
-small : (c : After-name_len) → c.loop-i.len + (44 + c.name_len.result) ≤ 1376
-small c =
-    let a = c.args in
-    let part = size-part (table_in a.table.now) a.named.now (c.loop-i.i + 1) (omega (arith, c.loop-i-test.true)) in
-    omega (arith, counted c, part, named-most c.requires.indexed c.requires.chosen_of)
-
-pub loop-i-preserved : goal.loop-i-preserved
-loop-i-preserved c = (search rules, sym (counted c))
+pub sum-requires-clause-fits : goal.sum-requires-clause-fits
+sum-requires-clause-fits c =
+    fits_by_from_yields_list _ _ c.map.result _
+    (YieldsList-from_map _ (pair_size c.args.table.now c.args.places.now)
+    (YieldsList-at c.map.ensures.source (YieldsList-from_slice c.args.named.now cc)) c.map.ensures.closure (λ x r q k. search (rules, tests)))
+    (omega (arith, pairs-sum c.requires.indexed c.requires.chosen_of, named-most c.requires.indexed c.requires.chosen_of))
 
 pub returns : goal.returns
-returns c = rw (take_all c.loop-i.i _ c.loop-i-test.false) at c.loop-i.invariant.1
-
-pub bounds-places-record : goal.bounds-places-record
-bounds-places-record c = place (goal.at.bounds-places-record c).After-shared_slice_known-in-loop-i-1
-
-pub overflow_add-len : goal.overflow_add-len
-overflow_add-len c = omega (arith, small c)
-
-pub overflow_add-len-in-loop-i : goal.overflow_add-len-in-loop-i
-overflow_add-len-in-loop-i c = omega (arith, small c)
+returns c =
+    sum_by_from_yields_List _ _ c.map.result _ c.sum.ensures.ran
+    (YieldsList-from_map _ (pair_size c.args.table.now c.args.places.now)
+    (YieldsList-at c.map.ensures.source (YieldsList-from_slice c.args.named.now cc)) c.map.ensures.closure (λ x r q k. search (rules, tests)))
+    ∙ pairs-sum c.requires.indexed c.requires.chosen_of

@@ -23,13 +23,14 @@ returns-in-Status c =
 pub put_info-requires : goal.put_info-requires
 put_info-requires c =
     let e = c.in-Info.is in
-    let g = ready_by _ e c.requires.ready in
+    let g = ready_by _ e (rw (← c.lent.view_is) at c.requires.ready) in
     (g.0, g.1, omega (arith, c.requires.len_value.1, c.requires.len_value.0 ∙ size_by _ e _ _ _ _))
 
 pub returns-in-Info : goal.returns-in-Info
 returns-in-Info c =
     let e = c.in-Info.is in
-    wrote_by _ e _ _ _ _ (same (sym (info-is _)) (sym (c.requires.len_value.0 ∙ size_by _ e _ _ _ _)) c.put_info.ensures)
+    let size = c.requires.len_value.0 ∙ size_by _ e _ _ _ _ in
+    rw (← c.lent.view_is) (wrote_by _ e _ _ _ _ (same (sym (info-is _)) (sym size) c.put_info.ensures))
 
 pub put_names-requires : goal.put_names-requires
 put_names-requires c =
@@ -47,8 +48,8 @@ part_of-requires c =
 pub put_krd-requires : goal.put_krd-requires
 put_krd-requires c =
     let e = c.in-Registration.is in
-    let g = ready_by _ e c.requires.ready in
-    let size = c.requires.len_value.0 ∙ size_by _ e _ _ _ _ in
+    let g = ready_by _ e (rw (← c.lent.view_is) at c.requires.ready) in
+    let size = (rw (← c.lent.view_is) at c.requires.len_value.0) ∙ size_by _ e _ _ _ _ in
     record {
       aaid_len = (g.aaid, rw c.part_of.ensures g.quoted.short, g.key-id, g.public-key);
       len_value = (rw (c.part_of.ensures, length_part g.quoted.challenge.inside) size, c.requires.len_value.1);
@@ -58,7 +59,7 @@ pub returns-in-Registration : goal.returns-in-Registration
 returns-in-Registration c =
     let e = c.in-Registration.is in
     let hash = c.part_of.ensures ∙ (ready_by _ e c.requires.ready).quoted.challenge.value in
-    wrote_by _ e _ _ _ _ (rw (register-draft _ _) (rw hash at c.put_krd.ensures))
+    rw (← c.lent.view_is) (wrote_by _ e _ _ _ _ (rw (register-draft _ _) (rw hash at c.put_krd.ensures)))
 
 -- the record is there
 below : (c : After-part_of-in-Signed) → c.in-Signed.record < length c.args.places.now
@@ -74,8 +75,8 @@ returns-in-Signed c =
     let q = (ready_by _ e c.requires.ready).quoted in
     let hash = c.part_of-in-Signed.ensures ∙ q.challenge.value in
     let shown = c.part_of-in-Signed-2.ensures ∙ q.content.value in
-    let key = c.key_of.ensures in
-    wrote_by _ e _ _ _ _ (rw (hash, shown, key, (there (goal.at.returns-in-Signed c).After-part_of-in-Signed).is) at c.put_signed_data.ensures)
+    let record-is = (there (goal.at.returns-in-Signed c).After-part_of-in-Signed).is in
+    rw (← c.lent.view_is) (wrote_by _ e _ _ _ _ (rw (hash, shown, c.key_of.ensures, record-is) at c.put_signed_data.ensures))
 
 pub part_of-requires-in-Signed : goal.part_of-requires-in-Signed
 part_of-requires-in-Signed c = (ready_by _ c.in-Signed.is c.requires.ready).quoted.challenge.inside
@@ -90,8 +91,8 @@ offset_bounds-places-record c = omega (arith, below (goal.at.offset_bounds-place
 pub put_signed_data-requires : goal.put_signed_data-requires
 put_signed_data-requires c =
     let e = c.in-Signed.is in
-    let g = ready_by _ e c.requires.ready in
-    let size = c.requires.len_value.0 ∙ size_by _ e _ _ _ _ in
+    let g = ready_by _ e (rw (← c.lent.view_is) at c.requires.ready) in
+    let size = (rw (← c.lent.view_is) at c.requires.len_value.0) ∙ size_by _ e _ _ _ _ in
     let part = c.part_of-in-Signed.ensures in
     record {
       aaid_len = (g.aaid, g.nonce, rw part g.quoted.short, key_length _ _ (there (goal.at.put_signed_data-requires c).After-part_of-in-Signed).stands c.key_of.ensures);

@@ -1,10 +1,15 @@
 -- The fields of the layout, whose places all compute.
-use mathlib.Core.Path.{refl}
 use Rattle.model.specs.Tlv.{le}
-use Rattle.tlv.specs.Firsts.{firsts}
-use Rattle.response_reader.specs.Readings.{parts_of}
 use Rattle.response_reader.proofs.readings.info_fields.Goals as goal
 
-pub returns : goal.returns
-unfolding firsts parts_of le
-returns c = rw (c.padded.ensures, c.padded-2.ensures, c.padded-3.ensures) refl
+pub returns-clause-listed : goal.returns-clause-listed
+unfolding le
+returns-clause-listed c =
+    c.push-8.ensures.more _
+    (c.push-7.ensures.more _
+    (c.push-6.ensures.more _
+    (c.push-5.ensures.more _
+    (c.push-4.ensures.more _
+    (c.push-3.ensures.more _
+    (c.push-2.ensures.more _
+    (c.push.ensures.more _ c.requires.begun)))))))

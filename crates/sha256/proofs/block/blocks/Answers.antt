@@ -2,11 +2,6 @@ use Rattle.std.proofs.Common.{◌<◌, length, sym, ◌∙◌, rules}
 use Rattle.sha256.proofs.BlockLaws.{blocks-next, blocks_done}
 use Rattle.sha256.proofs.block.blocks.Goals as goal
 
-pub loop-block-init : goal.loop-block-init
-loop-block-init c =
-    rw c.into_iter-block-iterator.ensures.into_iter_gives
-    (c.chunks_exact-block-items.ensures.size, rw c.chunks_exact-block-items.ensures.rest)
-
 pub loop-block-preserved : goal.loop-block-preserved
 loop-block-preserved c =
     let n = c.in-Some.ensures.steps in

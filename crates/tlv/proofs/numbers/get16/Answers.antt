@@ -1,14 +1,7 @@
--- Two bytes spell the number, by the law over the width.
-use native.Mathlib.Omega.{arith}
-use Prim.Native.Nat.{◌+◌}
-use Rattle.tlv.proofs.NumberLaws.{number-add, number_byte}
+-- The library's sum of the bytes is the number that they spell.
+use Rattle.std.proofs.Common.{◌∙◌, arith}
+use Rattle.tlv.proofs.NumberLaws.{number_read}
 use Rattle.tlv.proofs.numbers.get16.Goals as goal
 
 pub returns : goal.returns
-returns c =
-    let a = c.args in
-    let x = c.wide.ensures in
-    let y = c.wide-2.ensures in
-    number-add 1 1
-    (number_byte a.s.now a.at (omega arith) x.0 x.1)
-    (number_byte a.s.now (a.at + 1) (omega arith) y.0 y.1)
+returns c = number_read 1 c.bytes_at.ensures (c.from.ensures ∙ c.from_le_bytes.ensures) (omega arith)

@@ -1,6 +1,7 @@
--- Two numbers of two bytes spell one of four.
-use Rattle.tlv.proofs.NumberLaws.{number-add}
+-- The library's sum of the bytes is the number that they spell.
+use Rattle.std.proofs.Common.{arith}
+use Rattle.tlv.proofs.NumberLaws.{number_read}
 use Rattle.tlv.proofs.numbers.get32.Goals as goal
 
 pub returns : goal.returns
-returns c = number-add 2 2 c.get16.ensures c.get16-2.ensures
+returns c = number_read 3 c.bytes_at.ensures c.from_le_bytes.ensures (omega arith)

@@ -1,6 +1,7 @@
--- Two numbers of four bytes spell one of eight.
-use Rattle.tlv.proofs.NumberLaws.{number-add}
+-- The library's sum of the bytes is the number that they spell.
+use Rattle.std.proofs.Common.{arith}
+use Rattle.tlv.proofs.NumberLaws.{number_read}
 use Rattle.tlv.proofs.numbers.get64.Goals as goal
 
 pub returns : goal.returns
-returns c = number-add 4 4 c.get32.ensures c.get32-2.ensures
+returns c = number_read 7 c.bytes_at.ensures c.from_le_bytes.ensures (omega arith)

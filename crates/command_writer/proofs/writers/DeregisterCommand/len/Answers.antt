@@ -1,0 +1,6 @@
+-- What each field takes, with the header and the index.
+use Rattle.command_writer.proofs.WriterLaws.{deregister_counts}
+use Rattle.command_writer.proofs.writers.DeregisterCommand.len.Goals as goal
+
+pub returns : goal.returns
+returns c = deregister_counts _ _ _ _ c.opening_len.ensures.0 c.one_len.ensures.0 c.one_len-2.ensures.0
