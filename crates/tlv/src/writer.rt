@@ -2,17 +2,15 @@ ghost use Rattle.std.specs.Prelude.{◌+◌, ◌≤◌, [], ◌∷◌, length, t
 ghost use Rattle.model.specs.Tlv.{le, header, tlv, bytes};
 ghost use Rattle.tlv.specs.Writing.{Wrote};
 
-use crate::numbers::{get64, put16, put32, put64};
+use crate::numbers::{put16, put32};
 
-// Writes the 16 bytes of src at a place. Both numbers are read before one is written, so that the compiler can take them as one.
-fn put_block(out: &mut [u8], at: usize, src: &[u8], i: usize) -> usize
-    requires { (at + 16 ≤ length out.old) × (i + 16 ≤ length src.now) }
-    ensures { Wrote out.old at (take 16 (drop i src.now)) 16 out.new result }
+// Writes the W bytes of src at a place. That their number is a constant makes it a load and a store.
+fn put_block<const W: usize>(out: &mut [u8], at: usize, src: &[u8], i: usize) -> usize
+    requires { (at + W ≤ length out.old) × (i + W ≤ length src.now) }
+    ensures { Wrote out.old at (take W (drop i src.now)) W out.new result }
 {
-    let low = get64(src, i);
-    let high = get64(src, i + 8);
-    let mid = put64(out, at, low);
-    put64(out, mid, high)
+    out[at..at + W].copy_from_slice(&src[i..i + W]);
+    at + W
 }
 
 // Writes 16 bytes or more, 16 at a time. The last 16 may overlap those before them, which are then written twice: no byte is left over.
@@ -22,9 +20,9 @@ fn put_long(out: &mut [u8], at: usize, src: &[u8]) -> usize
 {
     let last = src.len() - 16;
     for i in (0..last).step_by(16) {
-        put_block(out, at + i, src, i);
+        put_block::<16>(out, at + i, src, i);
     }
-    put_block(out, at + last, src, last)
+    put_block::<16>(out, at + last, src, last)
 }
 
 // Writes 8 to 16 bytes: the first 8, and the last 8, which may overlap them.
@@ -33,10 +31,8 @@ fn put_middling(out: &mut [u8], at: usize, src: &[u8]) -> usize
     ensures { Wrote out.old at src.now (length src.now) out.new result }
 {
     let last = src.len() - 8;
-    let low = get64(src, 0);
-    let high = get64(src, last);
-    put64(out, at, low);
-    put64(out, at + last, high)
+    put_block::<8>(out, at, src, 0);
+    put_block::<8>(out, at + last, src, last)
 }
 
 // Writes a few bytes, one by one.
