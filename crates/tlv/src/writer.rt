@@ -2,14 +2,15 @@ ghost use Rattle.std.specs.Prelude.{◌+◌, ◌≤◌, [], ◌∷◌, length, t
 ghost use Rattle.model.specs.Tlv.{le, header, tlv, bytes};
 ghost use Rattle.tlv.specs.Writing.{Wrote};
 
-use crate::numbers::{put16, put32};
+use crate::numbers::{bytes_at, put16, put32};
 
-// Writes the W bytes of src at a place. That their number is a constant makes it a load and a store.
+// Writes the W bytes of src at a place. They go through an array, since a copy from one slice to another asks first whether the two overlap.
 fn put_block<const W: usize>(out: &mut [u8], at: usize, src: &[u8], i: usize) -> usize
     requires { (at + W ≤ length out.old) × (i + W ≤ length src.now) }
     ensures { Wrote out.old at (take W (drop i src.now)) W out.new result }
 {
-    out[at..at + W].copy_from_slice(&src[i..i + W]);
+    let b: [u8; W] = bytes_at(src, i);
+    out[at..at + W].copy_from_slice(&b);
     at + W
 }
 
