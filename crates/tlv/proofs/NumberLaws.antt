@@ -81,6 +81,14 @@ num-same s t b d e =
     (λ h. eq-eqb _ _ (ap num (eq_bytes-eq s t h)) ∙ sym h)
     (λ h. ne_eqb (num s) (num t) (λ k. let st : s ≡ t = cc in clash (eq_bytes-same st) h) ∙ sym h)
 
+-- the number at a place, written, is the bytes there
+pub number-written : (w at : ℕ) {s : List ℕ} {x : ℕ} → ((i : ℕ) → Fits w8 (get_or s i 0)) → at + w ≤ length s → NumberAt w s at x
+    → le w x ≡ take w (drop at s)
+unfolding num_at
+number-written w at {s} f h m =
+    let l : length (take w (drop at s)) ≡ w = length-take-le w (drop at s) (simp length-drop (omega arith)) in
+    rw m.value (rw l at (le-num (take w (drop at s)) (part_bytes w at s f)))
+
 -- two stretches of w bytes are the same exactly where their numbers are
 pub number_same : (w : ℕ) {a b : List ℕ} {p q x y : ℕ} → ((i : ℕ) → Fits w8 (get_or a i 0)) → ((i : ℕ) → Fits w8 (get_or b i 0))
     → p + w ≤ length a → q + w ≤ length b → NumberAt w a p x → NumberAt w b q y → eqb x y ≡ eq_bytes (take w (drop p a)) (take w (drop q b))

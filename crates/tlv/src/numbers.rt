@@ -11,7 +11,7 @@ pub fn wide(x: u8) -> usize
 }
 
 // The W bytes at a place.
-pub fn bytes_at<const W: usize>(s: &[u8], at: usize) -> [u8; W]
+fn bytes_at<const W: usize>(s: &[u8], at: usize) -> [u8; W]
     requires { at + W ≤ length s.now }
     ensures { result ≡ take W (drop at s.now) }
 {

@@ -2,16 +2,18 @@ ghost use Rattle.std.specs.Prelude.{◌+◌, ◌≤◌, [], ◌∷◌, length, t
 ghost use Rattle.model.specs.Tlv.{le, header, tlv, bytes};
 ghost use Rattle.tlv.specs.Writing.{Wrote};
 
-use crate::numbers::{bytes_at, put16, put32};
+use crate::numbers::{get64, put16, put32, put64};
 
-// Writes the W bytes of src at a place. They go through an array, since a copy from one slice to another asks first whether the two overlap.
-fn put_block<const W: usize>(out: &mut [u8], at: usize, src: &[u8], i: usize) -> usize
-    requires { (at + W ≤ length out.old) × (i + W ≤ length src.now) }
-    ensures { Wrote out.old at (take W (drop i src.now)) W out.new result }
+// Writes the 16 bytes of src at a place. Both numbers are read before one is written, so that the compiler can take them as one.
+// By copy_from_slice it was slower: of two slices that asks first whether they overlap, and through an array of 16 bytes 32 bytes took 5.8 ns for 4.7.
+fn put_block(out: &mut [u8], at: usize, src: &[u8], i: usize) -> usize
+    requires { (at + 16 ≤ length out.old) × (i + 16 ≤ length src.now) }
+    ensures { Wrote out.old at (take 16 (drop i src.now)) 16 out.new result }
 {
-    let b: [u8; W] = bytes_at(src, i);
-    out[at..at + W].copy_from_slice(&b);
-    at + W
+    let low = get64(src, i);
+    let high = get64(src, i + 8);
+    let mid = put64(out, at, low);
+    put64(out, mid, high)
 }
 
 // Writes 16 bytes or more, 16 at a time. The last 16 may overlap those before them, which are then written twice: no byte is left over.
@@ -21,9 +23,9 @@ fn put_long(out: &mut [u8], at: usize, src: &[u8]) -> usize
 {
     let last = src.len() - 16;
     for i in (0..last).step_by(16) {
-        put_block::<16>(out, at + i, src, i);
+        put_block(out, at + i, src, i);
     }
-    put_block::<16>(out, at + last, src, last)
+    put_block(out, at + last, src, last)
 }
 
 // Writes 8 to 16 bytes: the first 8, and the last 8, which may overlap them.
@@ -32,11 +34,13 @@ fn put_middling(out: &mut [u8], at: usize, src: &[u8]) -> usize
     ensures { Wrote out.old at src.now (length src.now) out.new result }
 {
     let last = src.len() - 8;
-    put_block::<8>(out, at, src, 0);
-    put_block::<8>(out, at + last, src, last)
+    let low = get64(src, 0);
+    let high = get64(src, last);
+    put64(out, at, low);
+    put64(out, at + last, high)
 }
 
-// Writes a few bytes, one by one.
+// Writes a few bytes, one by one: copy_from_slice of a length that is not constant is made for long copies.
 fn put_few(out: &mut [u8], at: usize, src: &[u8]) -> usize
     requires { at + length src.now ≤ length out.old }
     ensures { Wrote out.old at src.now (length src.now) out.new result }
