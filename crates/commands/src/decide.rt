@@ -44,5 +44,5 @@ pub fn decide(
         Kind::Deregister => deregister(command, params, mixed, table, places),
         Kind::OpenSettings => open_settings(params),
     };
-    decided.unwrap_or_else(only)
+    decided.unwrap_or_else(|status| only(usize::from(status)))
 }

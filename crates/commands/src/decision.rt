@@ -1,10 +1,9 @@
 ghost use Rattle.std.specs.Prelude.{◌≡◌};
-ghost use Rattle.replies.specs.Statuses.{number};
+ghost use Rattle.replies.specs.declared.reply.Shape.TheVariants.{Status};
 ghost use Rattle.commands.specs.Decisions.{decision};
 ghost use Rattle.stored_table.specs.declared.left.Change.TheVariants.{Keep};
 
 use replies::reply::Shape;
-use replies::status::Status;
 use stored_table::left::Change;
 
 // What a command decided on a table: a reply, how many records it names, and a change. The numbers of the records named stand first in what the
@@ -28,8 +27,8 @@ pub fn plain(shape: Shape, change: Change) -> Decision
 }
 
 // A status alone, and nothing changed.
-pub fn only(status: Status) -> Decision
-    ensures { result ≡ decision (Shape.Status (number status)) 0 Keep }
+pub fn only(status: usize) -> Decision
+    ensures { result ≡ decision (Status status) 0 Keep }
 {
-    plain(Shape::Status(status.into()), Change::Keep)
+    plain(Shape::Status(status), Change::Keep)
 }
