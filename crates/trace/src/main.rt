@@ -63,7 +63,7 @@ const MOST_TEXT: u64 = 1048576;
 
 const MOST_LINE: usize = 2 + 2 * MOST;
 
-// Does what each line of the script says, the last also without its newline.
+// Does what each line of the script says, the last also without its newline. A line lies on the heap, which only the token does without.
 fn obey_all<R: Print + Input + Alloc>(rt: &R, slots: &mut Slots) -> io::Result<()> {
     let script = rt.reader().take(MOST_TEXT);
     for line in script.split(rt.alloc(), b'\n') {
