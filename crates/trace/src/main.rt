@@ -8,7 +8,7 @@
 use script::slots::{MOST, Slot, Slots};
 use script::text::{Detail, read_hex};
 use std::io;
-use std::io::{BufRead, Read};
+use std::io::Read;
 use trace_commands::hashes::hash;
 use trace_commands::withdrawals::take_back;
 use trace_commands::{Form, run};
@@ -59,19 +59,30 @@ fn obey(rt: &impl Print, line: &[u8], slots: &mut Slots) -> io::Result<()> {
 }
 
 // A script has at most so many bytes, and a line at most a letter, a space and the longest argument: what is longer is cut off.
-const MOST_TEXT: u64 = 1048576;
+const MOST_TEXT: usize = 1048576;
 
 const MOST_LINE: usize = 2 + 2 * MOST;
 
-// Does what each line of the script says, the last also without its newline. A line lies on the heap, which only the token does without.
-fn obey_all<R: Print + Input + Alloc>(rt: &R, slots: &mut Slots) -> io::Result<()> {
-    let script = rt.reader().take(MOST_TEXT);
-    for line in script.split(rt.alloc(), b'\n') {
-        let mut line = line?;
-        line.truncate(MOST_LINE);
-        obey(rt, line.as_slice(), slots)?;
+// Does what each line of the script says, the last also without its newline. A line has a fixed buffer, with its length beside it: with a heap the
+// program would rest on one more part of the C library.
+fn obey_all<R: Print + Input>(rt: &R, slots: &mut Slots) -> io::Result<()> {
+    let mut reader = rt.reader();
+    let mut byte = [0; 1];
+    let mut line = [0; MOST_LINE];
+    let mut len = 0;
+    for _ in 0..MOST_TEXT {
+        if reader.read(&mut byte)? == 0 {
+            break;
+        }
+        if byte[0] == b'\n' {
+            obey(rt, &line[..len], slots)?;
+            len = 0;
+        } else if len < MOST_LINE {
+            line[len] = byte[0];
+            len += 1;
+        }
     }
-    Ok(())
+    obey(rt, &line[..len], slots)
 }
 
 fn main(rt: HostRuntime) -> io::Result<()> {
