@@ -180,6 +180,7 @@ pub fn read_fields(
     if !is_response(s) {
         return Err(Refusal::NotWritten);
     }
+    // Made here and not by a function of its own: of a reference that goes through one, a proof no longer knows what it leaves.
     *tags = [0; MOST_FIELDS];
     *places = [0; MOST_FIELDS];
     *lengths = [0; MOST_FIELDS];
