@@ -83,12 +83,7 @@ fn perform(
         kind,
         command,
         params,
-        lent.aaid,
-        lent.numbers,
-        lent.metadata,
-        lent.key_id,
-        lent.public_key,
-        lent.nonce,
+        lent,
         table,
         places,
     );

@@ -4,7 +4,7 @@ use mathlib.Core.Path.{◌≡◌, refl, ap, ◌∙◌}
 use mathlib.Core.Bool.{Bool, true, ◌&&◌}
 use mathlib.Core.List.{List, [], ◌∷◌, ◌++◌, map}
 use mathlib.Core.Option.{none, some}
-use Prim.Native.Nat.{ℕ, zero, suc, ◌+◌, ◌*◌, ◌/◌, ◌-◌, ◌≤◌, ◌<◌}
+use Prim.Native.Nat.{ℕ, zero, suc, ◌+◌, ◌*◌, ◌≤◌}
 use native.Mathlib.Omega.{arith}
 use lib.ListN.{length, take, drop, length-append, length-map, length-drop}
 use lib.Seq.{length-take-le, drop-drop}
@@ -116,14 +116,6 @@ module _ (ns s : List ℕ) (w : whole ns ≡ true) (l : length s ≡ 32 * length
       takes-ok _ _ ok ∙ rw handles-children (handles-length (length ns) s l)
 
 -- ---- one handle after another
-
--- the part from 32 n up to 32 bytes on
-module _ (n : ℕ) (s : List ℕ) (h : n < length s / 32) where
-  pub handle_part : take (32 * n + 32 - 32 * n) (drop (32 * n) s) ≡ take 32 (drop (32 * n) s)
-  handle_part = let e : 32 * n + 32 - 32 * n ≡ 32 = omega arith in rw e
-
-  pub handle_size : length (take (32 * n + 32 - 32 * n) (drop (32 * n) s)) ≡ 32
-  handle_size = rw handle_part (length-take-le 32 (drop (32 * n) s) (omega (arith, length-drop (32 * n) s)))
 
 pub handle_more : (n : ℕ) (s : List ℕ) → handle_tlvs (n + 1) s ≡ handle_tlvs n s ++ (tlv 0x2801 (take 32 (drop (32 * n) s)) ∷ [])
 unfolding handle_tlvs

@@ -4,7 +4,8 @@ use mathlib.Core.Path.{◌≡◌, sym, ap, ◌∙◌}
 use mathlib.Core.List.{List, [], ◌∷◌, ◌++◌, append_assoc}
 use Prim.Native.Nat.{ℕ, ◌+◌, ◌*◌, ◌-◌, ◌≤◌}
 use native.Mathlib.Omega.{arith}
-use lib.ListN.{length, take, drop, length-append}
+use lib.ListN.{length, take, drop, length-append, length-drop}
+use lib.Seq.{take_at, drop_at, drop-drop}
 use borrow.Author.Tests.{eq-eqb, ne_eqb}
 use Rattle.model.specs.Tlv.{le, Tlv, tlv, header, bytes, Kind, command_tag}
 use Rattle.model.specs.Writer.{command}
@@ -50,10 +51,19 @@ pub no_handles : (d : List ℕ) (at : ℕ) (s : List ℕ) → at ≤ length d �
 unfolding handle_tlvs bytes
 no_handles d at s h = wrote_none d at h
 
-module _ {d d₁ d₂ : List ℕ} {at r₁ r₂ : ℕ} (n : ℕ) (s : List ℕ) where
-  pub one_handle : Wrote d at (bytes (handle_tlvs n s)) (36 * n) d₁ r₁ → (v : List ℕ) → v ≡ take 32 (drop (32 * n) s) → length v ≡ 32
-      → Wrote d₁ r₁ (bytes (tlv 0x2801 v ∷ [])) (4 + length v) d₂ r₂
-      → Wrote d at (bytes (handle_tlvs (n + 1) s)) (36 * (n + 1)) d₂ r₂
-  one_handle p v e l q =
-      let w : Wrote d₁ r₁ (bytes (tlv 0x2801 (take 32 (drop (32 * n) s)) ∷ [])) (4 + length v) d₂ r₂ = rw (← e) q in
+-- v stands before what is left of s after n handles
+module _ (n : ℕ) (s v rest : List ℕ) (e : v ++ rest ≡ drop (32 * n) s) (l : length v ≡ 32) where
+  handle_first : v ≡ take 32 (drop (32 * n) s)
+  handle_first = sym (take_at v rest 32 l) ∙ ap (take 32) e
+
+  pub handle_rest : rest ≡ drop (32 * (n + 1)) s
+  handle_rest = sym (drop_at v rest 32 l) ∙ ap (drop 32) e ∙ drop-drop 32 (32 * n) s ∙ ap (λ m. drop m s) (omega arith)
+
+  pub handle_whole : 32 * (n + 1) ≤ length s
+  handle_whole = omega (arith, length-drop (32 * n) s, ap length e, length-append v rest)
+
+  pub one_handle : {d d₁ d₂ : List ℕ} {at r₁ r₂ : ℕ} → Wrote d at (bytes (handle_tlvs n s)) (36 * n) d₁ r₁
+      → Wrote d₁ r₁ (bytes (tlv 0x2801 v ∷ [])) (4 + length v) d₂ r₂ → Wrote d at (bytes (handle_tlvs (n + 1) s)) (36 * (n + 1)) d₂ r₂
+  one_handle {d₁ = d₁} {d₂ = d₂} {r₁ = r₁} {r₂ = r₂} p q =
+      let w : Wrote d₁ r₁ (bytes (tlv 0x2801 (take 32 (drop (32 * n) s)) ∷ [])) (4 + length v) d₂ r₂ = rw (← handle_first) q in
       same (sym (ap bytes (handle_more n s))) (omega arith) (then_run (handle_tlvs n s) (tlv 0x2801 (take 32 (drop (32 * n) s)) ∷ []) p w)

@@ -2,19 +2,23 @@
 -- Assumes nothing.
 use mathlib.Core.Path.{◌≡◌, refl, ap, ◌∙◌}
 use mathlib.Core.List.{List, [], ◌∷◌, append-nil}
-use Prim.Native.Nat.{ℕ, ◌+◌, ◌*◌, ◌/◌, ◌≤◌}
+use Prim.Native.Nat.{ℕ, ◌+◌, ◌/◌, ◌≤◌}
 use native.Mathlib.Omega.{arith}
 use lib.ListN.{length}
 use Rattle.std.specs.Prelude.{Ok, Err}
 use Rattle.model.specs.Tlv.{Tlv, tlv, max_command, app_id, challenge_hash, username, attestation_type, access_token, key_handle, key_id_or_none, user_verify_token, transaction_content, mandatory, optional, up_to}
-use Rattle.model.specs.Writer.{one, marked, number, pieces, to_register, to_sign, to_deregister, to_open_settings, wanted_values, command, children_for, command_of, Wanted, wanted_kind, write_command, to_get_info}
+use Rattle.model.specs.Writer.{one, marked, number, pieces, to_open_settings, wanted_values, command, children_for, command_of, Wanted, wanted_kind, write_command, to_get_info}
 use Rattle.model.specs.Commands.{gave}
 use Rattle.tlv.specs.Writing.{Wrote}
 use Rattle.fields.specs.Refusals.{ended, ends}
 use Rattle.fields.proofs.RefusalLaws.{ends-refused, ends-wrote}
 use Rattle.fields.specs.declared.refusals.Refusal.{Refusal}
 use Rattle.command_writer.specs.Lengths.{takes, takes_all, Counts, check_len}
-use Rattle.command_writer.specs.Parts.{given_size, register_tlvs, sign_tlvs, deregister_tlvs}
+use Rattle.command_writer.specs.Fields.{wanted_register, register_size, register_tlvs, wanted_sign, sign_size, sign_tlvs}
+use Rattle.command_writer.specs.Fields.{wanted_deregister, deregister_size, deregister_tlvs}
+use Rattle.command_writer.specs.declared.writers.Register.{Register}
+use Rattle.command_writer.specs.declared.writers.Sign.{Sign}
+use Rattle.command_writer.specs.declared.writers.Deregister.{Deregister}
 use Rattle.command_writer.proofs.LengthLaws.{one_size, marked-size, marked-tlvs, number_size, number-tlvs, index-takes, refuses, accepts, writes}
 use Rattle.command_writer.proofs.HandleLaws.{handles-size, handles-take, handles-children}
 
@@ -29,50 +33,57 @@ pub settings_counts : Counts to_open_settings 9 9 (tlv 0x280D (0 ∷ []) ∷ [])
 unfolding takes_all command_of children_for
 settings_counts = record { total = omega (arith, index-takes); sizes = λ m. refl; children = λ m. refl }
 
-pub register_counts : (ma : ℕ) (a c u : List ℕ) (t : ℕ) (k : List ℕ) (mv : ℕ) (v : List ℕ) {x₁ x₂ x₃ x₄ x₅ x₆ : ℕ}
-    → x₁ ≡ 9 + takes (optional app_id) (marked ma a) → x₂ ≡ takes (mandatory challenge_hash) (one c) → x₃ ≡ takes (mandatory username) (one u)
-    → x₄ ≡ takes (mandatory attestation_type) (number t) → x₅ ≡ takes (mandatory access_token) (one k)
-    → x₆ ≡ takes (optional user_verify_token) (marked mv v)
-    → Counts (to_register ma a c u t k mv v) (x₁ + x₂ + x₃ + x₄ + x₅ + x₆)
-    (9 + given_size ma (length a) + (4 + length c) + (4 + length u) + 6 + (4 + length k) + given_size mv (length v))
-    (register_tlvs ma a c u t k mv v)
+pub register_counts : (r : Register) {x₁ x₂ x₃ x₄ x₅ x₆ : ℕ}
+    → x₁ ≡ 9 + takes (optional app_id) (marked r.app_id.mark r.app_id.value.now) → x₂ ≡ takes (mandatory challenge_hash) (one r.challenge.now)
+    → x₃ ≡ takes (mandatory username) (one r.username.now) → x₄ ≡ takes (mandatory attestation_type) (number r.attestation)
+    → x₅ ≡ takes (mandatory access_token) (one r.access_token.now)
+    → x₆ ≡ takes (optional user_verify_token) (marked r.verify_token.mark r.verify_token.value.now)
+    → Counts (wanted_register r) (x₁ + x₂ + x₃ + x₄ + x₅ + x₆) (register_size r) (register_tlvs r)
 unfolding takes_all command_of children_for
-register_counts ma a c u t k mv v e₁ e₂ e₃ e₄ e₅ e₆ =
+register_counts r e₁ e₂ e₃ e₄ e₅ e₆ =
     record {
       total = omega (arith, index-takes);
       sizes = λ m.
           omega (
             arith,
-            marked-size app_id a ma (omega arith),
-            one_size challenge_hash c (omega arith),
-            one_size username u (omega arith),
-            number_size t (omega arith),
-            one_size access_token k (omega arith),
-            marked-size user_verify_token v mv (omega arith),
+            marked-size app_id r.app_id.value.now r.app_id.mark (omega arith),
+            one_size challenge_hash r.challenge.now (omega arith),
+            one_size username r.username.now (omega arith),
+            number_size r.attestation (omega arith),
+            one_size access_token r.access_token.now (omega arith),
+            marked-size user_verify_token r.verify_token.value.now r.verify_token.mark (omega arith),
           );
-      children = λ m. rw (marked-tlvs app_id a ma, number-tlvs t (omega arith), marked-tlvs user_verify_token v mv, append-nil);
+      children = λ m.
+          rw (
+            marked-tlvs app_id r.app_id.value.now r.app_id.mark,
+            number-tlvs r.attestation (omega arith),
+            marked-tlvs user_verify_token r.verify_token.value.now r.verify_token.mark,
+            append-nil,
+          );
     }
 
-pub sign_counts : (ma : ℕ) (a c : List ℕ) (mt : ℕ) (t k : List ℕ) (mv : ℕ) (v hs ns : List ℕ) {x₁ x₂ x₃ x₄ x₅ x₆ : ℕ}
-    → x₁ ≡ 9 + takes (optional app_id) (marked ma a) → x₂ ≡ takes (mandatory challenge_hash) (one c)
-    → x₃ ≡ takes (optional transaction_content) (marked mt t) → x₄ ≡ takes (mandatory access_token) (one k)
-    → x₅ ≡ takes (optional user_verify_token) (marked mv v) → x₆ ≡ takes (up_to 8 key_handle) (pieces ns hs)
-    → Counts (to_sign ma a c mt t k mv v hs ns) (x₁ + x₂ + x₃ + x₄ + x₅ + x₆)
-    (9 + given_size ma (length a) + (4 + length c) + given_size mt (length t) + (4 + length k) + given_size mv (length v) + 36 * (length hs / 32))
-    (sign_tlvs ma a c mt t k mv v hs (length hs / 32))
+pub sign_counts : (s : Sign) {x₁ x₂ x₃ x₄ x₅ x₆ : ℕ}
+    → x₁ ≡ 9 + takes (optional app_id) (marked s.app_id.mark s.app_id.value.now) → x₂ ≡ takes (mandatory challenge_hash) (one s.challenge.now)
+    → x₃ ≡ takes (optional transaction_content) (marked s.content.mark s.content.value.now)
+    → x₄ ≡ takes (mandatory access_token) (one s.access_token.now)
+    → x₅ ≡ takes (optional user_verify_token) (marked s.verify_token.mark s.verify_token.value.now)
+    → x₆ ≡ takes (up_to 8 key_handle) (pieces s.handle_sizes.now s.handles.now)
+    → Counts (wanted_sign s) (x₁ + x₂ + x₃ + x₄ + x₅ + x₆) (sign_size s) (sign_tlvs s)
 unfolding takes_all command_of children_for
-sign_counts ma a c mt t k mv v hs ns e₁ e₂ e₃ e₄ e₅ e₆ =
+sign_counts s e₁ e₂ e₃ e₄ e₅ e₆ =
+    let ns : List ℕ = s.handle_sizes.now in
+    let hs : List ℕ = s.handles.now in
     record {
       total = omega (arith, index-takes);
       sizes = λ m.
           let h = handles-size ns hs (omega arith) in
           omega (
             arith,
-            marked-size app_id a ma (omega arith),
-            one_size challenge_hash c (omega arith),
-            marked-size transaction_content t mt (omega arith),
-            one_size access_token k (omega arith),
-            marked-size user_verify_token v mv (omega arith),
+            marked-size app_id s.app_id.value.now s.app_id.mark (omega arith),
+            one_size challenge_hash s.challenge.now (omega arith),
+            marked-size transaction_content s.content.value.now s.content.mark (omega arith),
+            one_size access_token s.access_token.now (omega arith),
+            marked-size user_verify_token s.verify_token.value.now s.verify_token.mark (omega arith),
             handles-take ns hs h.1 h.2 h.0,
             h.2,
           );
@@ -81,25 +92,29 @@ sign_counts ma a c mt t k mv v hs ns e₁ e₂ e₃ e₄ e₅ e₆ =
           let z : length hs / 32 ≡ length ns = omega (arith, h.2) in
           rw (
             z,
-            marked-tlvs app_id a ma,
-            marked-tlvs transaction_content t mt,
-            marked-tlvs user_verify_token v mv,
+            marked-tlvs app_id s.app_id.value.now s.app_id.mark,
+            marked-tlvs transaction_content s.content.value.now s.content.mark,
+            marked-tlvs user_verify_token s.verify_token.value.now s.verify_token.mark,
             handles-children ns hs h.1 h.2,
             append-nil,
           );
     }
 
-pub deregister_counts : (ma : ℕ) (a i k : List ℕ) {x₁ x₂ x₃ : ℕ} → x₁ ≡ 9 + takes (optional app_id) (marked ma a)
-    → x₂ ≡ takes (mandatory key_id_or_none) (one i) → x₃ ≡ takes (mandatory access_token) (one k)
-    → Counts (to_deregister ma a i k) (x₁ + x₂ + x₃)
-    (9 + given_size ma (length a) + (4 + length i) + (4 + length k)) (deregister_tlvs ma a i k)
+pub deregister_counts : (d : Deregister) {x₁ x₂ x₃ : ℕ} → x₁ ≡ 9 + takes (optional app_id) (marked d.app_id.mark d.app_id.value.now)
+    → x₂ ≡ takes (mandatory key_id_or_none) (one d.key_id.now) → x₃ ≡ takes (mandatory access_token) (one d.access_token.now)
+    → Counts (wanted_deregister d) (x₁ + x₂ + x₃) (deregister_size d) (deregister_tlvs d)
 unfolding takes_all command_of children_for
-deregister_counts ma a i k e₁ e₂ e₃ =
+deregister_counts d e₁ e₂ e₃ =
     record {
       total = omega (arith, index-takes);
       sizes = λ m.
-          omega (arith, marked-size app_id a ma (omega arith), one_size key_id_or_none i (omega arith), one_size access_token k (omega arith));
-      children = λ m. rw (marked-tlvs app_id a ma);
+          omega (
+            arith,
+            marked-size app_id d.app_id.value.now d.app_id.mark (omega arith),
+            one_size key_id_or_none d.key_id.now (omega arith),
+            one_size access_token d.access_token.now (omega arith),
+          );
+      children = λ m. rw (marked-tlvs app_id d.app_id.value.now d.app_id.mark);
     }
 
 -- ---- what a writer says by its sum

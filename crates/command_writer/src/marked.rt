@@ -4,7 +4,7 @@ ghost use Rattle.model.specs.Writer.{marked};
 ghost use Rattle.tlv.specs.Writing.{Wrote};
 ghost use Rattle.params.specs.Slots.{slot_field};
 ghost use Rattle.command_writer.specs.Lengths.{takes};
-ghost use Rattle.command_writer.specs.Parts.{given_tlvs, given_size};
+ghost use Rattle.command_writer.specs.Parts.{marked_tlvs, marked_size};
 
 use crate::lengths::{TOO_LONG, one_len};
 use tlv::writer::put_tlv;
@@ -37,9 +37,8 @@ impl<'a> Marked<'a> {
     // Writes it, if it is given.
     #[tactic(auto, using(crate::proofs::PartLaws::marked_written))]
     pub(crate) fn put(&self, out: &mut [u8], at: usize, tag: usize) -> usize
-        requires { at + given_size self.now.mark (length self.now.value.now) ≤ length out.old }
-        ensures { Wrote out.old at (bytes (given_tlvs tag self.now.mark self.now.value.now))
-            (given_size self.now.mark (length self.now.value.now)) out.new result }
+        requires { at + marked_size self.now ≤ length out.old }
+        ensures { Wrote out.old at (bytes (marked_tlvs tag self.now)) (marked_size self.now) out.new result }
     {
         if self.mark == GIVEN {
             return put_tlv(out, at, tag, self.value);

@@ -5,7 +5,7 @@ ghost use Rattle.model.specs.Tlv.{header, bytes, optional};
 ghost use Rattle.model.specs.Writer.{marked};
 ghost use Rattle.tlv.specs.Writing.{Wrote};
 ghost use Rattle.command_writer.specs.Lengths.{takes};
-ghost use Rattle.command_writer.specs.Parts.{given_size, handle_tlvs, opening};
+ghost use Rattle.command_writer.specs.Parts.{marked_size, handle_tlvs, opening};
 
 use crate::lengths::{HANDLE, HEADER_AND_INDEX};
 use crate::marked::Marked;
@@ -22,9 +22,8 @@ pub fn opening_len(app_id: &Marked) -> usize
 
 // What Register, Sign and Deregister begin with: the header of a command of len bytes, the index and, if it is given, the AppID.
 pub fn put_opening(out: &mut [u8], tag: usize, len: usize, app_id: &Marked) -> usize
-    requires { (4 ≤ len) × (9 + given_size app_id.now.mark (length app_id.now.value.now) ≤ length out.old) }
-    ensures { Wrote out.old 0 (header tag (len - 4) ++ bytes (opening app_id.now.mark app_id.now.value.now))
-        (9 + given_size app_id.now.mark (length app_id.now.value.now)) out.new result }
+    requires { (4 ≤ len) × (9 + marked_size app_id.now ≤ length out.old) }
+    ensures { Wrote out.old 0 (header tag (len - 4) ++ bytes (opening app_id.now)) (9 + marked_size app_id.now) out.new result }
 {
     let a1 = put_header(out, 0, tag, len - 4);
     let a2 = put_tlv(out, a1, tags::AUTHENTICATOR_INDEX, b"\x00");
@@ -37,9 +36,8 @@ pub fn put_handles(out: &mut [u8], at: usize, handles: &[u8]) -> usize
     ensures { Wrote out.old at (bytes (handle_tlvs (length handles.now / 32) handles.now)) (36 * (length handles.now / 32)) out.new result }
 {
     let mut end = at;
-    for i in 0..handles.len() / HANDLE {
-        let start = HANDLE * i;
-        end = put_tlv(out, end, tags::KEYHANDLE, &handles[start..start + HANDLE]);
+    for handle in handles.chunks_exact(HANDLE) {
+        end = put_tlv(out, end, tags::KEYHANDLE, handle);
     }
     end
 }

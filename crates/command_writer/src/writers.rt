@@ -5,9 +5,9 @@ ghost use Rattle.model.specs.Writer.{Wanted, wanted_kind, command, write_command
 ghost use Rattle.tlv.specs.Writing.{Wrote};
 ghost use Rattle.fields.specs.Refusals.{ended, ends};
 ghost use Rattle.command_writer.specs.Lengths.{Counts};
-ghost use Rattle.command_writer.specs.Fields.{wanted_register, register_size, register_children};
-ghost use Rattle.command_writer.specs.Fields.{wanted_sign, sign_size, sign_children};
-ghost use Rattle.command_writer.specs.Fields.{wanted_deregister, deregister_size, deregister_children};
+ghost use Rattle.command_writer.specs.Fields.{wanted_register, register_size, register_tlvs};
+ghost use Rattle.command_writer.specs.Fields.{wanted_sign, sign_size, sign_tlvs};
+ghost use Rattle.command_writer.specs.Fields.{wanted_deregister, deregister_size, deregister_tlvs};
 
 use crate::lengths::{HEADER, HEADER_AND_INDEX, check_len, handles_len, one_len, type_len};
 use crate::marked::Marked;
@@ -111,7 +111,7 @@ impl<'a> Command for Register<'a> {
 
     ghost size = { register_size };
 
-    ghost children = { register_children };
+    ghost children = { register_tlvs };
 
     fn len(&self) -> usize {
         opening_len(&self.app_id)
@@ -156,7 +156,7 @@ impl<'a> Command for Sign<'a> {
 
     ghost size = { sign_size };
 
-    ghost children = { sign_children };
+    ghost children = { sign_tlvs };
 
     fn len(&self) -> usize {
         opening_len(&self.app_id)
@@ -197,7 +197,7 @@ impl<'a> Command for Deregister<'a> {
 
     ghost size = { deregister_size };
 
-    ghost children = { deregister_children };
+    ghost children = { deregister_tlvs };
 
     fn len(&self) -> usize {
         opening_len(&self.app_id)

@@ -36,15 +36,15 @@ module _ (κs : Lfts 12) (a : Dens κs command-kinds.ps) (r : (res_t command-kin
       }))
   command_promises p = p
 
-module _ (κs : Lfts 7) (a : Dens κs run-kinds.ps) (r : (res_t run-kinds.r κs).Denot) (s : AtExit (ended_of 7 run-kinds.ps run-kinds.r) κs) where
+module _ (κs : Lfts 4) (a : Dens κs run-kinds.ps) (r : (res_t run-kinds.r κs).Denot) (s : AtExit (ended_of 4 run-kinds.ps run-kinds.r) κs) where
   pub run_promises : run-reads.Learnt κs a r s
-      → let (s₀, (aaid, (numbers, (metadata, (key_id, (public_key, (nonce, (t, (out, end))))))))) = a in
-      let (_, (_, (_, (_, (_, (_, (_, (_, (out', end'))))))))) = s in
+      → let (s₀, (lent, (t, (out, end)))) = a in
+      let (_, (_, (_, (out', end')))) = s in
       Promised (by_value t)
       (run
       (record {
         command = s₀.now;
-        lent = lent_of aaid.now numbers metadata.now key_id.now public_key.now nonce.now;
+        lent = lent.now;
         before = out.now;
         after = out'.now;
         ran = r;

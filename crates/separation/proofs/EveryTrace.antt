@@ -1,30 +1,34 @@
 -- Every trace of the combinations that an entry has is that of some calls: what the entries promise can be met wherever they are called, and the
 -- table can be turned from the one form into the other between any two commands.
 -- Assumes nothing.
-use mathlib.Core.Path.{◌≡◌, refl, ◌∙◌}
-use mathlib.Core.Bool.{true}
+use mathlib.Core.Path.{◌≡◌, refl, ap, ◌∙◌}
+use mathlib.Core.Bool.{true, cond}
 use mathlib.Core.List.{List, [], ◌∷◌, ◌++◌}
 use mathlib.Core.Option.{Option, none, some}
 use Prim.Native.Nat.{ℕ}
+use lib.Dec.{eqb}
 use lib.ListN.{length, replicate, length-replicate}
+use Rattle.std.specs.Prelude as std
+use Rattle.std.specs.Prelude.{Ok, Err}
 use Rattle.model.specs.Lists.{all}
 use Rattle.model.specs.Records.{Table, max_stored, encode, decode}
-use Rattle.model.specs.Commands.{Call, value, stored, table_of, Result, refused, gave, on_gave, judge, outcome, over, outputs}
-use Rattle.model.specs.Withdrawals.{Withdrawal, withdraw}
+use Rattle.model.specs.Commands.{Call, value, stored, table_of, Result, refused, gave, on_gave, Given, Effect, Check, judge, refusals, outcome, over, outputs}
+use Rattle.model.specs.Withdrawals.{Withdrawal, withdraw_refusals, withdraw}
 use Rattle.model.specs.Traces.{Act, commands, withdraws, Form, itself, in_stored_form, Step, final}
-use Rattle.model.proofs.Basics.{and_left, and_right, clash}
+use Rattle.model.proofs.Basics.{and_left, and_right, clash, impossible, split}
 use Rattle.model.proofs.Kept.{given-ok}
 use Rattle.fields.specs.Refusals as written
-use Rattle.fields.specs.declared.refusals.Written.TheVariants as output
+use Rattle.fields.specs.Refusals.{number}
+use Rattle.fields.specs.declared.refusals.Refusal.{Refusal}
+use Rattle.fields.specs.declared.refusals.Refusal.TheVariants.{ShortOutput, BrokenTable, NoCommand, WrongLent, NotWritten, BadField, NotWithdrawable}
 use Rattle.params.specs.Lent as params
 use Rattle.key_table.specs.Views.{view_table, table_value}
 use Rattle.key_table.specs.Forms.{loading, storing}
 use Rattle.key_table.specs.declared.records.Table as tables
 use Rattle.by_value.specs.Runs as runs
-use Rattle.by_value.specs.declared.Answered.{Answered}
-use Rattle.by_value.specs.declared.Answered.TheVariants as answers
+use Rattle.by_value.specs.declared.Answer.{Answer}
 use Rattle.authenticator.specs.Withdrawing.{withdrawal}
-use Rattle.by_value.specs.Withdrew.{withdrew}
+use Rattle.by_value.specs.Withdrew as withdrawals
 use Rattle.token.specs.Returned.{gets, returned}
 use Rattle.token.specs.Written.{wrote, returned_bytes}
 use Rattle.separation.specs.Calls.{Commanding, Running, Withdrawing, Taking, Storing, Made, command, run, withdrawing, taking, load, store, Held, by_value, as_stored, given_by, Promised, held_after, Calls, steps_of, steps, offers, table_output_of, offered, EveryTrace}
@@ -39,13 +43,53 @@ zeros n = replicate n 0
 zeros_long : (n : ℕ) → length (zeros n) ≡ n
 zeros_long n = length-replicate n 0
 
-abbrev saying : Result runs.Size → Answered
-saying (refused n) = answers.Refused n
-saying (gave z) = answers.Gave z.draft z.length
+-- the refusal that has a number
+abbrev named : ℕ → Refusal
+named n =
+    cond (eqb n 1) ShortOutput
+    (cond (eqb n 2) BrokenTable
+    (cond (eqb n 3) NoCommand
+    (cond (eqb n 4) WrongLent (cond (eqb n 5) NotWritten (cond (eqb n 6) BadField NotWithdrawable)))))
 
-said_back : (z : Result runs.Size) → runs.said (saying z) ≡ z
-said_back (refused n) = refl
-said_back (gave z) = refl
+-- each check has the number of a refusal
+abbrev Named : List Check → Type 0
+Named [] = Unit {0}
+Named (c ∷ cs) = (number (named c.says) ≡ c.says) × Named cs
+
+judged_named : {A : Type 0} (cs : List Check) (x : A) → Named cs → (n : ℕ) → judge cs refused (gave x) ≡ refused n → number (named n) ≡ n
+unfolding judge
+judged_named [] x h n e = impossible cc
+judged_named (c ∷ cs) x h n e =
+    split c.fails
+    (λ f. let i : refused c.says ≡ refused n = rw f at e in let z : n ≡ c.says = cc in rw z h.0)
+    (λ f. judged_named cs x h.1 n (rw f at e))
+
+-- so a call is refused by a number that a refusal has, and so is a withdrawal
+call_named : (c : Call) (g : Given) (n : ℕ) → outcome c g ≡ refused n → number (named n) ≡ n
+unfolding outcome refusals
+call_named c g n e = judged_named (refusals c g) _ (refl, (refl, (refl, (refl, tt)))) n e
+
+withdrawal_named : (w : Withdrawal) (g : Given) (n : ℕ) → withdraw w g ≡ refused n → number (named n) ≡ n
+unfolding withdraw withdraw_refusals
+withdrawal_named w g n e = judged_named (withdraw_refusals w g) _ (refl, (refl, (refl, (refl, (refl, (refl, tt)))))) n e
+
+-- what a call by value says of a result of the model, which says that result
+abbrev saying : Result runs.Size → std.Result Answer Refusal
+saying (refused n) = Err (named n)
+saying (gave z) = Ok (record { draft = z.draft; len = z.length })
+
+said_back : (o : Result Effect) → ((n : ℕ) → o ≡ refused n → number (named n) ≡ n) → runs.said (saying (runs.size_of o)) ≡ runs.size_of o
+said_back (refused n) h = ap refused (h n refl)
+said_back (gave e) h = refl
+
+-- and a withdrawal by value
+abbrev taken : Result Table → std.Result (Unit {0}) Refusal
+taken (refused n) = Err (named n)
+taken (gave t) = Ok tt
+
+taken_back : (r : Result Table) → ((n : ℕ) → r ≡ refused n → number (named n) ≡ n) → withdrawals.said (taken r) ≡ on_gave (λ t. tt) r
+taken_back (refused n) h = ap refused (h n refl)
+taken_back (gave t) h = refl
 
 -- the call of a step, with outputs of its lengths
 abbrev commanding : List ℕ → Call → ℕ → Commanding
@@ -71,7 +115,9 @@ running u c =
 
 runs_so : (u : tables.Table) (c : Call) → Promised (by_value u) (run (running u c))
 unfolding runs.ends
-runs_so u c = rw (said_back (runs.size_of (outcome (params.call c.command c.lent (length (zeros c.output)) none) (value (view_table u)))))
+runs_so u c =
+    let call = params.call c.command c.lent (length (zeros c.output)) none in
+    rw (said_back (outcome call (value (view_table u))) (call_named call (value (view_table u))))
 
 -- a withdrawal, with an output of this length, and by value
 abbrev withdrawing_as : List ℕ → Withdrawal → ℕ → Withdrawing
@@ -89,7 +135,9 @@ taking_as u w =
     record {
       mixed = w.mixed;
       key_id = w.key_id;
-      withdrew = withdrew (withdraw (withdrawal w.mixed w.key_id none) (value (view_table u))) u;
+      withdrew =
+          let r = withdraw (withdrawal w.mixed w.key_id none) (value (view_table u)) in
+          record { done = taken r; table = runs.table_left r u };
     }
 
 -- a call on a table by value, and on a stored one
@@ -103,7 +151,9 @@ stored_made s (withdraws w) n = withdrawing (withdrawing_as s w n)
 
 by_value_promised : (u : tables.Table) (a : Act) → Promised (by_value u) (by_value_made u a)
 by_value_promised u (commands c) = runs_so u c
-by_value_promised u (withdraws w) = refl
+by_value_promised u (withdraws w) =
+    let taking = withdrawal w.mixed w.key_id none in
+    rw (taken_back (withdraw taking (value (view_table u))) (withdrawal_named taking (value (view_table u))))
 
 stored_promised : (s : List ℕ) (a : Act) (n : ℕ) → Promised (as_stored s) (stored_made s a n)
 stored_promised s (commands c) n = refl
@@ -121,13 +171,13 @@ stored-step s (withdraws w) n o = rw (zeros_long n, ← o)
 -- ---- from the one form to the other
 
 loads_so : (s : List ℕ) (t : Table) → table_of (stored s) ≡ some t
-    → Promised (as_stored s) (load (record { refusal = 0; table = table_value t }))
+    → Promised (as_stored s) (load (Ok (table_value t)))
 unfolding loading table_of
 loads_so s t is = let d : decode s ≡ some t = is in rw d
 
 abbrev storing_all : Table → Storing
 storing_all t =
-    record { before = zeros max_stored; after = over (encode t) (zeros max_stored); written = output.Wrote (length (encode t)) }
+    record { before = zeros max_stored; after = over (encode t) (zeros max_stored); written = Ok (length (encode t)) }
 
 stores_so : (u : tables.Table) (t : Table) → table_of (value (view_table u)) ≡ some t → Promised (by_value u) (store (storing_all t))
 unfolding storing written.ends judge
@@ -166,7 +216,7 @@ module _ (x : Step) (ss : List Step) (rest : (k : Held) (t : Table) → Good k t
   unfolding held_after final
   on_value (by_value u) t is f o = value_held u t is f o
   on_value (as_stored s) t is f o =
-      let m = load (record { refusal = 0; table = table_value t }) in
+      let m = load (Ok (table_value t)) in
       let p = loads_so s t is in
       after (as_stored s) m p refl (value_held (table_value t) t (made_is [] (as_stored s) m t is p).left f o)
 

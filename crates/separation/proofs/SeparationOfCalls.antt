@@ -10,6 +10,8 @@ use borrow.Author.Tests.{ne_eqb}
 use lib.ListN.{length, drop}
 use lib.Dec.{eqb, ltb}
 use lib.Seq.{take_at}
+use Rattle.std.specs.Prelude as std
+use Rattle.std.specs.Prelude.{Ok, Err}
 use Rattle.model.specs.Records.{Table, max_stored, table_ok, encode, decode}
 use Rattle.model.specs.Commands.{Call, Given, value, stored, table_of, Result, refused, gave, on_gave, Effect, judge, refusals, outcome, bytes_of, outputs}
 use Rattle.model.specs.Withdrawals.{Withdrawal, withdraw_refusals, withdraw}
@@ -21,26 +23,22 @@ use Rattle.model.proofs.StoredForm.{decode-encode}
 use Rattle.model.proofs.Rules.{tests}
 use Rattle.model.proofs.Separation.{handed-same, separation}
 use Rattle.fields.specs.Refusals as written
-use Rattle.fields.specs.declared.refusals.Written.{Written}
-use Rattle.fields.specs.declared.refusals.Written.TheVariants as output
+use Rattle.fields.specs.declared.refusals.Refusal.{Refusal}
 use Rattle.authenticator.specs.Outcomes.{is_draft}
 use Rattle.key_table.specs.Views.{view_table, table_value}
 use Rattle.key_table.specs.Forms.{loading, storing}
 use Rattle.key_table.specs.declared.records.Table as by_value
-use Rattle.key_table.specs.declared.forms.Loaded.{Loaded}
 use Rattle.key_table.proofs.TidyLaws.{view_of_value}
 use Rattle.by_value.specs.Runs as runs
-use Rattle.by_value.specs.declared.Answered.{Answered}
-use Rattle.by_value.specs.declared.Answered.TheVariants as answers
+use Rattle.by_value.specs.declared.Answer.{Answer}
 use Rattle.by_value.proofs.RunLaws.{left-view}
-use Rattle.by_value.specs.Withdrew.{refusal_of}
-use Rattle.by_value.specs.declared.withdraw.Withdrew.{Withdrew}
+use Rattle.by_value.specs.Withdrew as withdrawals
 use Rattle.by_value.proofs.WithdrawLaws.{withdrew-view}
 use Rattle.token.specs.Returned.{answer_number, returned}
 use Rattle.token.specs.Written.{returned_bytes}
 use Rattle.token.proofs.EntryLaws.{number_is}
 use Rattle.token.proofs.RoundTrip.{one_of}
-use Rattle.separation.specs.Calls.{Commanding, Running, Withdrawing, Taking, Storing, Made, command, run, withdrawing, taking, load, store, command_call, run_call, withdrawing_of, taking_of, Held, by_value, as_stored, given_by, Promised, after_storing, held_after, Calls, held_last, steps_of, steps, Said, wrote, done, Told, coded, command_says, run_says, told, told_of, told_to, SeparationOfCalls}
+use Rattle.separation.specs.Calls.{Commanding, Running, Withdrawing, Taking, Storing, Made, command, run, withdrawing, taking, load, store, command_call, run_call, withdrawing_of, taking_of, Held, by_value, as_stored, given_by, Promised, after_storing, held_after, Calls, held_last, steps_of, steps, Said, wrote, done, Told, coded, command_says, run_says, taking_says, told, told_of, told_to, SeparationOfCalls}
 
 -- ---- what a call says and leaves is what the trace says of it
 
@@ -106,15 +104,15 @@ module _ (m : Commanding) (s : List ℕ) (t : Table) (is : table_of (stored s) �
       go (gave d) e = command-gave d (kept _ _ d e) (p ∙ ap (λ (r : Result Effect). returned r m.before) e)
 
 -- what a call by value says, by what is said of it and its output
-run-says : (o : Result Effect) (x : Answered) (s s' : List ℕ) → runs.said x ≡ runs.size_of o
+run-says : (o : Result Effect) (x : std.Result Answer Refusal) (s s' : List ℕ) → runs.said x ≡ runs.size_of o
     → s' ≡ (outputs o (record { response = s; table = none })).response → run_says s' x ≡ says_as (on_gave (λ o. o.told) (command_outcome o))
 unfolding outputs
-run-says (refused n) (answers.Refused m) s s' e f = cc e
-run-says (refused n) (answers.Gave d m) s s' e f = impossible cc
-run-says (gave y) (answers.Refused m) s s' e f = impossible cc
-run-says (gave y) (answers.Gave d m) s s' e f =
+run-says (refused n) (Err r) s s' e f = cc e
+run-says (refused n) (Ok a) s s' e f = impossible cc
+run-says (gave y) (Err r) s s' e f = impossible cc
+run-says (gave y) (Ok a) s s' e f =
     let b : List ℕ = bytes_of y.answer in
-    let u : runs.Size = record { draft = d; length = m } in
+    let u : runs.Size = record { draft = a.draft; length = a.len } in
     let v : runs.Size = record { draft = is_draft y.answer; length = length b } in
     let z : u ≡ v = cc in
     rw (ap (λ (z : runs.Size). z.draft) z, ap (λ (z : runs.Size). z.length) z, f, number_is y.answer, take_at b (drop (length b) s) (length b) refl)
@@ -179,26 +177,29 @@ withdrawing-is m s t is p = go (withdraw (withdrawing_of m) (stored s)) refl p
         let w = take_at f (drop (length f) m.before.output) (length f) refl in
         record { said = rw q; left = rw (q, w) (decode-encode u (withdraw_kept (withdrawing_of m) (stored s) u e)) }
 
-taking-says : (r : Result Table) → ((n : ℕ) → r ≡ refused n → 0 < n) → coded (refusal_of r) done ≡ says_as (on_gave (λ o. o.told) (withdrawal_outcome r))
-taking-says (refused n) h = rw (no_zero n (h n refl))
-taking-says (gave u) h = refl
+taking-says : (r : Result Table) (x : std.Result (Unit {0}) Refusal) → withdrawals.said x ≡ on_gave (λ u. tt) r
+    → taking_says x ≡ says_as (on_gave (λ o. o.told) (withdrawal_outcome r))
+taking-says (refused n) (Err q) e = cc e
+taking-says (refused n) (Ok u) e = impossible cc
+taking-says (gave t) (Err q) e = impossible cc
+taking-says (gave t) (Ok u) e = refl
 
 taking-is : (m : Taking) (u : by_value.Table) (t : Table) → table_of (value (view_table u)) ≡ some t → Promised (by_value u) (taking m)
-    → Is (coded m.withdrew.refusal done) (held_after (by_value u) (taking m)) t (outcome_of (withdraws (taking_of m)) (value (view_table u)))
+    → Is (taking_says m.withdrew.done) (held_after (by_value u) (taking m)) t (outcome_of (withdraws (taking_of m)) (value (view_table u)))
 unfolding held_after
 taking-is m u t is p =
     let g = value (view_table u) in
     let l = outcome_of (withdraws (taking_of m)) g in
     let v : view_table m.withdrew.table ≡ left_by l t =
-    ap (λ (y : Withdrew). view_table y.table) p ∙ withdrew-view (taking_of m) g u ∙ ap (left_by l) (view-is u t is) in
+    ap (λ (y : withdrawals.Ended). view_table y.table) p ∙ withdrew-view (taking_of m) g u ∙ ap (left_by l) (view-is u t is) in
     record {
-      said = rw p (taking-says (withdraw (taking_of m) g) (withdraw_positive (taking_of m) g));
+      said = taking-says (withdraw (taking_of m) g) m.withdrew.done (ap (λ (y : withdrawals.Ended). y.says) p);
       left = found m.withdrew.table (left_by l t) v (left-ok (withdraws (taking_of m)) g t is);
     }
 
 -- ---- reading a stored table and storing one leave the table as it is
 
-load_is : (l : Loaded) (s : List ℕ) (t : Table) → table_of (stored s) ≡ some t → l ≡ loading (decode s)
+load_is : (l : std.Result by_value.Table Refusal) (s : List ℕ) (t : Table) → table_of (stored s) ≡ some t → l ≡ loading (decode s)
     → table_of (given_by (held_after (as_stored s) (load l))) ≡ some t
 unfolding held_after loading table_of
 load_is l s t is p =
@@ -207,13 +208,13 @@ load_is l s t is p =
     rw (p, d) (found (table_value t) t (view_of_value t k.few k.each) (given-ok (stored s) t is))
 
 -- a table stored under this result of the model, or not
-stored-as : (t : Table) (k : Held) (r : Result (List ℕ)) (w : Written) (s s' : List ℕ) → written.ended w s' ≡ written.ends r s
+stored-as : (t : Table) (k : Held) (r : Result (List ℕ)) (w : std.Result ℕ Refusal) (s s' : List ℕ) → written.ended w s' ≡ written.ends r s
     → table_of (given_by k) ≡ some t → ((f : List ℕ) → r ≡ gave f → decode f ≡ some t) → table_of (given_by (after_storing k s' w)) ≡ some t
 unfolding written.ends table_of
-stored-as t k (refused n) (output.Refused m) s s' p is h = is
-stored-as t k (refused n) (output.Wrote m) s s' p is h = let i = ap (λ (y : written.Ended). y.result) p in impossible cc
-stored-as t k (gave f) (output.Refused m) s s' p is h = let i = ap (λ (y : written.Ended). y.result) p in impossible cc
-stored-as t k (gave f) (output.Wrote m) s s' p is h =
+stored-as t k (refused n) (Err r) s s' p is h = is
+stored-as t k (refused n) (Ok m) s s' p is h = let i = ap (λ (y : written.Ended). y.result) p in impossible cc
+stored-as t k (gave f) (Err r) s s' p is h = let i = ap (λ (y : written.Ended). y.result) p in impossible cc
+stored-as t k (gave f) (Ok m) s s' p is h =
     let i = ap (λ (y : written.Ended). y.result) p in
     let j : m ≡ length f = cc in
     rw (j, ap (λ (y : written.Ended). y.output) p, take_at f (drop (length f) s) (length f) refl) (h f refl)

@@ -1,6 +1,7 @@
 -- Calls of the entries one after another, as a caller makes and sees them: `uaf_command` and `uaf_withdraw` on a stored table, `run` and `withdraw` on a
 -- table by value, `load` and `store` from the one form to the other. Each is handed what the last one left.
-use Rattle.std.specs.Prelude.{◌≡◌, ℕ, Bool, true, not, cond, List, [], ◌∷◌, ◌++◌, eqb, length, take}
+use Rattle.std.specs.Prelude as std
+use Rattle.std.specs.Prelude.{◌≡◌, ℕ, Bool, true, not, cond, List, [], ◌∷◌, ◌++◌, eqb, length, take, Ok, Err}
 use Rattle.std.proofs.Math.Option.{Option, none, some, map}
 use Rattle.model.specs.Lists as lists
 use Rattle.model.specs.Records as model
@@ -9,17 +10,15 @@ use Rattle.model.specs.Commands.{Lent, Call, Given, value, stored, table_of, Res
 use Rattle.model.specs.Withdrawals.{Withdrawal, withdraw}
 use Rattle.model.specs.Traces.{Act, commands, withdraws, itself, in_stored_form, Form, Step, is_of, Comparable}
 use Rattle.fields.specs.Refusals as written
-use Rattle.fields.specs.declared.refusals.Written.{Written}
-use Rattle.fields.specs.declared.refusals.Written.TheVariants as output
+use Rattle.fields.specs.Refusals.{number}
+use Rattle.fields.specs.declared.refusals.Refusal.{Refusal}
 use Rattle.params.specs.Lent as params
 use Rattle.authenticator.specs.Withdrawing.{withdrawal}
 use Rattle.key_table.specs.Views.{view_table}
 use Rattle.key_table.specs.Forms.{loading, storing}
 use Rattle.key_table.specs.declared.records.Table.{Table}
-use Rattle.key_table.specs.declared.forms.Loaded.{Loaded}
 use Rattle.by_value.specs.Runs as runs
-use Rattle.by_value.specs.declared.Answered.{Answered}
-use Rattle.by_value.specs.declared.Answered.TheVariants as answered
+use Rattle.by_value.specs.declared.Answer.{Answer}
 use Rattle.by_value.specs.declared.Ran.{Ran}
 use Rattle.by_value.specs.Withdrew as withdrawals
 use Rattle.by_value.specs.declared.withdraw.Withdrew.{Withdrew}
@@ -47,7 +46,7 @@ pub record Running : Type 0 where
 pub record Storing : Type 0 where
   pub before : List ℕ
   pub after : List ℕ
-  pub written : Written
+  pub written : std.Result ℕ Refusal
 
 -- of `uaf_withdraw`: mixed token and KeyID, and the number and the output lent, before it and after it
 pub record Withdrawing : Type 0 where
@@ -67,7 +66,7 @@ pub data Made : Type 0 where
   run : Running → Made
   withdrawing : Withdrawing → Made
   taking : Taking → Made
-  load : Loaded → Made
+  load : std.Result Table Refusal → Made
   store : Storing → Made
 
 -- the call of the definitions that it is
@@ -118,21 +117,25 @@ Promised (as_stored s) (store m) = ⊥
 Promised (by_value t) (command m) = ⊥
 Promised (by_value t) (run m) = runs.ended m.ran m.after ≡ runs.ends (outcome (run_call m) (value (view_table t))) t m.before
 Promised (by_value t) (withdrawing m) = ⊥
-Promised (by_value t) (taking m) = m.withdrew ≡ withdrawals.withdrew (withdraw (taking_of m) (value (view_table t))) t
+Promised (by_value t) (taking m) = withdrawals.ended m.withdrew ≡ withdrawals.ends (withdraw (taking_of m) (value (view_table t))) t
 Promised (by_value t) (load l) = ⊥
 Promised (by_value t) (store m) = written.ended m.written m.after ≡ written.ends (storing (view_table t) (length m.before)) m.before
 
 -- what is held then: "after a refusal that is the one the refused call was given"
-abbrev pub after_storing : Held → List ℕ → Written → Held
-after_storing k s (output.Refused n) = k
-after_storing k s (output.Wrote n) = as_stored (take n s)
+abbrev pub after_storing : Held → List ℕ → std.Result ℕ Refusal → Held
+after_storing k s (Err r) = k
+after_storing k s (Ok n) = as_stored (take n s)
+
+abbrev pub after_loading : Held → std.Result Table Refusal → Held
+after_loading k (Err r) = k
+after_loading k (Ok t) = by_value t
 
 unfoldable pub held_after : Held → Made → Held
 held_after k (command m) = cond (eqb m.after.code 0) (as_stored (take m.after.table_length m.after.table)) k
 held_after k (run m) = by_value m.ran.table
 held_after k (withdrawing m) = cond (eqb m.after.code 0) (as_stored (take m.after.size m.after.output)) k
 held_after k (taking m) = by_value m.withdrew.table
-held_after k (load l) = cond (eqb l.refusal 0) (by_value l.table) k
+held_after k (load l) = after_loading k l
 held_after k (store m) = after_storing k m.after m.written
 
 -- calls of which the first is handed this, and each later one what the last one left
@@ -182,9 +185,13 @@ abbrev pub command_says : Returned → Result Said
 command_says r =
     coded r.code (wrote (record { answer = r.answer; size = r.response_length; bytes = take r.response_length r.response }))
 
-abbrev pub run_says : List ℕ → Answered → Result Said
-run_says s (answered.Refused n) = refused n
-run_says s (answered.Gave d n) = gave (wrote (record { answer = draft_number d; size = n; bytes = take n s }))
+abbrev pub run_says : List ℕ → std.Result Answer Refusal → Result Said
+run_says s (Err r) = refused (number r)
+run_says s (Ok a) = gave (wrote (record { answer = draft_number a.draft; size = a.len; bytes = take a.len s }))
+
+abbrev pub taking_says : std.Result (Unit {0}) Refusal → Result Said
+taking_says (Err r) = refused (number r)
+taking_says (Ok u) = gave done
 
 abbrev pub records_in : List ℕ → Held → Option model.Table
 records_in h k = map (own h) (table_of (given_by k))
@@ -197,7 +204,7 @@ unfoldable pub told_of : List ℕ → Held → Made → List Told
 told_of h k (command m) = told h (command_step m) (command_says m.after) (held_after k (command m))
 told_of h k (run m) = told h (run_step m) (run_says m.after m.ran.answered) (held_after k (run m))
 told_of h k (withdrawing m) = told h (withdrawing_step m) (coded m.after.code done) (held_after k (withdrawing m))
-told_of h k (taking m) = told h (taking_step m) (coded m.withdrew.refusal done) (held_after k (taking m))
+told_of h k (taking m) = told h (taking_step m) (taking_says m.withdrew.done) (held_after k (taking m))
 told_of h k (load l) = []
 told_of h k (store m) = []
 

@@ -1,5 +1,5 @@
 -- The buffer: bytes with zeros behind them, and what is put there.
-use Rattle.std.proofs.Common.{◌≡◌, ℕ, zero, suc, ◌+◌, ◌-◌, ◌*◌, ◌<◌, ◌≤◌, List, [], ◌∷◌, ◌++◌, length, get_or, take, drop, set, replicate, sym, refl, ap, ◌∙◌, ap₂, append_assoc, append-nil, add-one, div-one, arith, take_at, subst, length-append, length-take-le, get_or-append-add, drop_at}
+use Rattle.std.proofs.Common.{◌≡◌, ℕ, zero, suc, ◌+◌, ◌-◌, ◌*◌, ◌<◌, ◌≤◌, List, [], ◌∷◌, ◌++◌, length, get_or, take, drop, set, replicate, sym, refl, ap, ◌∙◌, ap₂, append_assoc, append-nil, add-one, div-one, arith, take_at, subst, length-append, length-take-le, drop_at}
 use lib.ListN.{drop_of_length-le, length-replicate, replicate-append-replicate}
 use borrow.Rule.Slice.PartMut.{put_mid}
 use Rattle.std.specs.Int.{w32, w64, to_be_bytes}
@@ -75,12 +75,6 @@ module _ {F : Type 0} (g : Mut F (ℕ × Unit {0}) ℕ) (l : List ℕ) (f : F) (
   made n d r =
       ext_get_or 0 d (firsts 0 n l) (r.long ∙ sym (length-firsts 0 n l))
       (λ i h. made_from d n 0 i r.each (omega arith) (omega (arith, r.long)) ∙ sym (firsts_at n l i (omega (arith, r.long))))
-
--- where the byte stands
-pub in_second : (x y : List ℕ) (i : ℕ) → length x ≤ i → get_or (x ++ y) i 0 ≡ get_or y (i - length x) 0
-in_second x y i h =
-    let e : i ≡ length x + (i - length x) = omega arith in
-    ap (λ (k : ℕ). get_or (x ++ y) k 0) e ∙ get_or-append-add x y (i - length x) 0
 
 -- bytes that are put right behind f, as many as stood there
 pub put_behind : (f z s : List ℕ) (at k : ℕ) → length f ≡ at → length z ≡ k → put_mid at k (f ++ z) s ≡ f ++ s

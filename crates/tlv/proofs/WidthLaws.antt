@@ -1,31 +1,31 @@
--- The bytes that the library makes of a number are those of the model, at every width. Assumes nothing.
-use mathlib.Core.Path.{◌≡◌, refl, ap}
-use mathlib.Core.List.{◌∷◌}
-use Prim.Native.Nat.{ℕ, zero, suc, ◌/◌, ◌%◌, ◌^◌, ◌≤◌}
-use native.Mathlib.Nat.{pow-suc, div-div-eq-div-mul, div-one}
-use native.Mathlib.Omega.{arith}
-use lib.ListN.{take}
-use Rattle.std.specs.Int.{byte_at, bytes_low_first}
+-- How a number is written at every width by shifts and masks, so that nothing is divided. Assumes nothing.
+use mathlib.Core.Path.{◌≡◌, refl, sym, ap}
+use mathlib.Core.List.{[], ◌∷◌, ◌++◌}
+use Prim.Native.Nat.{ℕ, zero, suc, ◌+◌, ◌-◌, ◌*◌, ◌/◌, ◌%◌, ◌^◌}
+use native.Mathlib.Nat.{zero-add, suc-add, mul-suc, pow-suc, pow-succ', div-div-eq-div-mul, div-one}
+use lib.Bits.{bit_and, and_mask}
+use lib.Pow.{pow-add}
 use Rattle.model.specs.Tlv.{le}
 
--- byte i is what is left of a number after i bytes, in one byte
-byte-is : (i n : ℕ) → byte_at i n ≡ n / 256 ^ i % 256
-byte-is zero n = simp div-one
-byte-is (suc i) n = refl
+-- w bytes have 8 * w bits
+bits : (w : ℕ) → 2 ^ (8 * w) ≡ 256 ^ w
+bits zero = refl
+bits (suc w) = simp (mul-suc, pow-add, pow-suc, bits w)
 
--- so k bytes from byte i on are what is left of it after i bytes, in k bytes
-low-first : (k i n : ℕ) → bytes_low_first i k n ≡ le k (n / 256 ^ i)
+-- so a shift to the right by w bytes is the quotient by 256 ^ w, and what is left over are the w lowest bytes, which a mask keeps
+shift_quotient : (w n : ℕ) → n / 2 ^ (8 * w) ≡ n / 256 ^ w
+shift_quotient w n = rw (bits w)
+
+mask_remainder : (w n : ℕ) → bit_and n (2 ^ (8 * w) - 1) ≡ n % 256 ^ w
+mask_remainder w n = rw (← bits w) (and_mask n (8 * w))
+
+-- a number in one byte
+pub le_byte : (n : ℕ) → le 1 n ≡ bit_and n 0xff ∷ []
 unfolding le
-low-first zero i n = refl
-low-first (suc k) i n = rw (byte-is i n, low-first k (suc i) n, pow-suc, ← div-div-eq-div-mul) refl
+le_byte n = ap (λ b. b ∷ []) (sym (mask_remainder 1 n))
 
--- fewer bytes of a number are the first of more
-take-le : (w k n : ℕ) → w ≤ k → take w (le k n) ≡ le w n
+-- a number in a + b bytes is that number in a bytes, then what a shift by a bytes leaves of it in b bytes
+pub le-add : (a b n : ℕ) → le (a + b) n ≡ le a n ++ le b (n / 2 ^ (8 * a))
 unfolding le
-take-le zero k n h = refl
-take-le (suc w) zero n h = absurd (omega arith)
-take-le (suc w) (suc k) n h = ap (λ l. n % 256 ∷ l) (take-le w k (n / 256) (omega arith))
-
--- the first w of k bytes
-pub le_bytes : (w k n : ℕ) → w ≤ k → take w (bytes_low_first 0 k n) ≡ le w n
-le_bytes w k n h = rw (low-first k 0 n, div-one) (take-le w k n h)
+le-add zero b n = simp (zero-add, div-one)
+le-add (suc a) b n = simp (suc-add, le-add a b (n / 256), shift_quotient, pow-succ', div-div-eq-div-mul)

@@ -2,13 +2,14 @@
 -- Assumes nothing.
 use mathlib.Core.Path.{◌≡◌, refl, sym, ap, ◌∙◌}
 use mathlib.Core.List.{List, [], ◌∷◌, ◌++◌, append_assoc}
-use Prim.Native.Nat.{ℕ, suc, ◌+◌, ◌-◌, ◌≤◌, ◌<◌}
+use Prim.Native.Nat.{ℕ, ◌+◌, ◌-◌, ◌≤◌, ◌<◌}
 use native.Mathlib.Nat.{add-zero}
 use native.Mathlib.Numerals.{add-one}
 use native.Mathlib.Omega.{arith}
 use lib.ListN.{length, get_or, take, drop, set, length-append, length-drop, take-append-drop}
-use lib.Seq.{take-length, take-take, take-add, take-append-add, paste, paste-suc, take-paste, drop-paste, take_at, drop_at, length-take-le, drop-drop, sets, sets-eq}
+use lib.Seq.{take-length, take-take, take-add, take-append-add, paste, paste-suc, take-paste, drop-paste, take_at, drop_at, length-take-le, drop-drop}
 use borrow.Rule.Slice.PartMut.{put_mid, Post-is}
+use Rattle.std.proofs.lemmas.List.{set_split}
 use Rattle.model.specs.Tlv.{Tlv, tlv, header, bytes}
 use Rattle.model.proofs.Tlvs.{bytes-append, bytes_one}
 use Rattle.tlv.specs.Writing.{splice, Wrote}
@@ -87,31 +88,16 @@ module _ {d d₁ d₂ v : List ℕ} {at n r₁ r₂ : ℕ} (tag : ℕ) where
   pub then_value : Wrote d at (header tag n) 4 d₁ r₁ → Wrote d₁ r₁ v n d₂ r₂ → Wrote d at (bytes (tlv tag v ∷ [])) (4 + n) d₂ r₂
   then_value p q = same (sym (bytes_one tag n v q.size)) refl (then p q)
 
+-- a byte
+pub wrote_byte : (d : List ℕ) (at b : ℕ) → at < length d → Wrote d at (b ∷ []) 1 (set d at b) (at + 1)
+wrote_byte d at b h = record { size = refl; room = omega arith; next = refl; bytes = rw add-one (set_split d at b h) }
+
 -- a copy of xs into a part of a stretch
 pub wrote_part : (d : List ℕ) (at n : ℕ) {m xs : List ℕ} → at + n ≤ length d → length xs ≡ n → m ≡ xs
     → Wrote d at xs n (put_mid at (at + n - at) d m) (at + n)
 wrote_part d at n h k e =
     let w : at ≤ at + n = omega arith in
     record { size = k; room = h; next = refl; bytes = rw (e, Post-is at (at + n) d w, k) }
-
--- ---- stores one after the other
-
-abbrev pub stores : List ℕ → ℕ → List ℕ → List ℕ
-stores d i [] = d
-stores d i (v ∷ vs) = stores (set d i v) (i + 1) vs
-
-stores_sets : (vs d : List ℕ) (i : ℕ) → stores d i vs ≡ sets d i vs
-stores_sets [] d i = refl
-stores_sets (v ∷ vs) d i = rw add-one (stores_sets vs (set d i v) (suc i))
-
-pub wrote_stores : (vs d : List ℕ) (at r : ℕ) → at + length vs ≤ length d → r ≡ at + length vs → Wrote d at vs (length vs) (stores d at vs) r
-wrote_stores vs d at r h e =
-    record {
-      size = refl;
-      room = h;
-      next = e;
-      bytes = stores_sets vs d at ∙ sets-eq vs d at h ∙ append_assoc (take at d) vs (drop (at + length vs) d);
-    }
 
 -- ---- a copy
 

@@ -42,6 +42,7 @@ pub fn part_of(s: &[u8], p: Span) -> &[u8]
 }
 
 // What stands at a place of a stretch: a TLV, whose value lies from start to end; bytes that are none; or nothing more.
+// An Option of a Result of a struct says the same in three layers: a reader's one match, and `head_at` of the specs, would be longer.
 #[derive(Clone, Copy)]
 pub enum Head {
     Tlv {

@@ -44,6 +44,15 @@ pub fn get64(s: &[u8], at: usize) -> usize
     usize::from_le_bytes(bytes_at(s, at))
 }
 
+// The two lowest bytes of a length or a tag, the lowest first: the one place that splits a number into bytes. By a shift and masks, since division is
+// dear on the terminal's processor: to_le_bytes of the library divides, and one function over the width would split by it.
+fn split(n: usize) -> [u8; 2]
+    ensures { result ≡ le 2 n }
+{
+    let high = n >> 8;
+    [(n & 0xff) as u8, (high & 0xff) as u8]
+}
+
 // Writes a byte.
 pub fn put8(out: &mut [u8], at: usize, b: u8) -> usize
     requires { at + 1 ≤ length out.old }
@@ -53,36 +62,29 @@ pub fn put8(out: &mut [u8], at: usize, b: u8) -> usize
     at + 1
 }
 
-// Writes the W lowest bytes of a number, the lowest first.
-fn put<const W: usize>(out: &mut [u8], at: usize, n: usize) -> usize
-    requires { (W ≤ 8) × (at + W ≤ length out.old) }
-    ensures { Wrote out.old at (le W n) W out.new result }
-{
-    let b = n.to_le_bytes();
-    out[at..at + W].copy_from_slice(&b[..W]);
-    at + W
-}
-
 // Writes a number in two bytes.
 pub fn put16(out: &mut [u8], at: usize, n: usize) -> usize
     requires { at + 2 ≤ length out.old }
     ensures { Wrote out.old at (le 2 n) 2 out.new result }
 {
-    put::<2>(out, at, n)
+    out[at..at + 2].copy_from_slice(&split(n));
+    at + 2
 }
 
-// Writes a number in four bytes.
+// Writes a number in four bytes, its low half first.
 pub fn put32(out: &mut [u8], at: usize, n: usize) -> usize
     requires { at + 4 ≤ length out.old }
     ensures { Wrote out.old at (le 4 n) 4 out.new result }
 {
-    put::<4>(out, at, n)
+    let mid = put16(out, at, n);
+    put16(out, mid, n >> 16)
 }
 
-// Writes a number in eight bytes.
+// Writes a number in eight bytes, its low half first.
 pub fn put64(out: &mut [u8], at: usize, n: usize) -> usize
     requires { at + 8 ≤ length out.old }
     ensures { Wrote out.old at (le 8 n) 8 out.new result }
 {
-    put::<8>(out, at, n)
+    let mid = put32(out, at, n);
+    put32(out, mid, n >> 32)
 }

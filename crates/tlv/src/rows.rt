@@ -57,7 +57,7 @@ fn mark_of(s: &[u8], p: usize) -> u32
     ((low + high) % 4294967296) as u32
 }
 
-// How often a mark stands there.
+// How often a mark stands there. Counted in 32 bits, as many at a time as are compared: `filter(..).count()` counts in 64.
 fn alike_in(marks: &[u32], x: u32) -> u32
     requires { length marks.now ≤ 32 }
     ensures { result ≡ alike x marks.now }

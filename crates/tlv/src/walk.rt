@@ -5,6 +5,7 @@ use crate::heads::{Head, head_at};
 
 // A walk: "the stretch being read, with the place reached in it". What is over it is thin: it is taken apart here, the work is done by
 // `head_at` on slice and number, and everybody else calls `tlv_at`.
+// It is no Iterator: a reader notes the places of what it finds, and keeps the place itself.
 #[derive(Clone, Copy)]
 pub struct Walk<'a> {
     pub stretch: &'a [u8],

@@ -1,12 +1,19 @@
 -- What the entries of the reader return, from what the functions below them give.
 -- Assumes nothing.
-use mathlib.Core.Path.{◌≡◌, ap, ◌∙◌}
+use mathlib.Core.Path.{◌≡◌, ap}
 use mathlib.Core.Bool.{true, false}
 use mathlib.Core.List.{List}
 use Prim.Native.Nat.{ℕ, ◌+◌, ◌-◌, ◌≤◌}
 use native.Mathlib.Omega.{arith}
+use Rattle.std.specs.Prelude as std
+use Rattle.std.specs.Prelude.{Ok, Err}
+use lib.ListN.{length}
+use Rattle.model.specs.Commands.{Result, refused, gave}
+use Rattle.model.specs.Reader as model
+use Rattle.fields.specs.Refusals.{number}
+use Rattle.fields.specs.declared.refusals.Refusal.{Refusal}
 use Rattle.model.specs.Reader.{Stretch, is_response, read_response}
-use Rattle.model.proofs.Basics.{split}
+use Rattle.model.proofs.Basics.{impossible}
 use Rattle.model.proofs.Refusals.{not_read}
 use Rattle.tlv.specs.declared.heads.Span.{Span}
 use Rattle.response_reader.specs.Met.{met, span_of, signed_met}
@@ -36,29 +43,30 @@ point_gave s p n e f = rw (response-is s e, f) (stretch_as (first_signed (met s 
 
 -- ---- the fields
 
-module _ (s : List ℕ) (b : ReturnedFields) {r : Reading} {ts ps ls : List ℕ}
-    (f : left r ts ps ls ≡ reading_of (read_response s) b.tags b.places b.lengths) where
-  list_not : is_response s ≡ false → r.refusal ≡ 5
-  unfolding reading_of
-  list_not e = ap (λ (x : Left). x.reading.refusal) f ∙ rw (not_read s e)
-
-  list_is : is_response s ≡ true → r.refusal ≡ 0
-  unfolding reading_of
-  list_is e = ap (λ (x : Left). x.reading.refusal) f ∙ rw (response-is s e)
-
-  pub list_refused : (r.refusal ≡ 0 → ⊥)
-      → gets_fields r.refusal b.tag b.status b.count ts ps ls ≡ returned_fields (read_response s) b
+module _ (s : List ℕ) (b : ReturnedFields) {x : std.Result Reading Refusal} {ts ps ls : List ℕ}
+    (f : left x ts ps ls ≡ reading_of (read_response s) b.tags b.places b.lengths) where
+  pub list_refused : (r : Refusal) {n : ℕ} → x ≡ Err r → n ≡ number r
+      → gets_fields n b.tag b.status b.count ts ps ls ≡ returned_fields (read_response s) b
   unfolding returned_fields reading_of
-  list_refused h =
-      split (is_response s) (λ e. absurd (h (list_is e)))
-      (λ e. let g : left r ts ps ls ≡ left (record { refusal = 5; tag = 0; status = 0; count = 0 }) b.tags b.places b.lengths = rw (not_read s e) at f in
-      rw (not_read s e, ap (λ (x : Left). x.reading.refusal) g, ap (λ (x : Left). x.tags) g, ap (λ (x : Left). x.places) g, ap (λ (x : Left). x.lengths) g))
+  list_refused r {n} e k = rw k (go (read_response s) (rw e at f))
+    where
+      go : (o : Result model.Reading) → left (Err r) ts ps ls ≡ reading_of o b.tags b.places b.lengths
+          → gets_fields (number r) b.tag b.status b.count ts ps ls ≡ returned_fields o b
+      go (refused m) g =
+          let says : refused (number r) ≡ refused m = ap (λ (y : Left). y.reading) g in
+          let same : number r ≡ m = cc in
+          rw (same, ap (λ (y : Left). y.tags) g, ap (λ (y : Left). y.places) g, ap (λ (y : Left). y.lengths) g)
+      go (gave y) g = let says = ap (λ (z : Left). z.reading) g in impossible cc
 
-  pub list_gave : r.refusal ≡ 0
+  pub list_gave : (r : Reading) → x ≡ Ok r
       → gets_fields 0 r.tag r.status r.count ts ps ls ≡ returned_fields (read_response s) b
   unfolding returned_fields reading_of
-  list_gave h =
-      split (is_response s)
-      (λ e. let g = ap (λ (x : Left). gets_fields 0 x.reading.tag x.reading.status x.reading.count x.tags x.places x.lengths) f in
-      g ∙ rw (response-is s e))
-      (λ e. let k = list_not e in absurd (omega arith))
+  list_gave r e = go (read_response s) (rw e at f)
+    where
+      go : (o : Result model.Reading) → left (Ok r) ts ps ls ≡ reading_of o b.tags b.places b.lengths
+          → gets_fields 0 r.tag r.status r.count ts ps ls ≡ returned_fields o b
+      go (refused m) g = let says = ap (λ (z : Left). z.reading) g in impossible cc
+      go (gave y) g =
+          let says = ap (λ (z : Left). z.reading) g in
+          let same : r ≡ record { tag = y.tag; status = y.status; count = length y.fields } = cc in
+          rw (same, ap (λ (z : Left). z.tags) g, ap (λ (z : Left). z.places) g, ap (λ (z : Left). z.lengths) g)

@@ -14,17 +14,13 @@ ghost use Rattle.params.specs.Lent.{lent_of, call};
 ghost use Rattle.token.specs.Returned.{gets, draft_number, returned, numbers_of};
 
 use authenticator::call::call;
-use authenticator::outcome::Outcome;
-use params::lent::Numbers;
+use params::lent::{Lent, Numbers};
 
 // A draft is told by 1, a response by 0.
 fn draft_number(draft: bool) -> u32
     ensures { result ≡ draft_number draft }
 {
-    if draft {
-        return 1;
-    }
-    0
+    u32::from(draft)
 }
 
 // Runs a call on a table in its stored form. Gives the refusal number, or 0; then response_len bytes of the response output are a response
@@ -65,19 +61,20 @@ pub fn uaf_command(
         verdict,
         display,
     };
-    let outcome = call(
-        command, aaid, numbers, metadata, key_id, public_key, nonce, table, response, table_out,
-    );
-    match outcome {
-        Outcome::Refused(n) => n,
-        Outcome::Gave {
-            draft,
-            response_len: n,
-            table_len: m,
-        } => {
-            *answer = draft_number(draft);
-            *response_len = n;
-            *table_len = m;
+    let lent = Lent {
+        aaid,
+        numbers,
+        metadata,
+        key_id,
+        public_key,
+        nonce,
+    };
+    match call(command, &lent, table, response, table_out) {
+        Err(refusal) => u32::from(refusal),
+        Ok(gave) => {
+            *answer = draft_number(gave.draft);
+            *response_len = gave.response_len;
+            *table_len = gave.table_len;
             0
         }
     }

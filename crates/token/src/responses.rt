@@ -7,9 +7,9 @@ ghost use Rattle.token.specs.Responses.{points, pointed, gets_fields, returned_f
 
 use crate::told::tell;
 use completion::complete;
-use fields::refusals::NOT_WRITTEN;
+use fields::refusals::Refusal;
 use response_reader::readings::{MOST_FIELDS, read_fields};
-use response_reader::shapes::{Shape, shape_of};
+use response_reader::shapes::shape_of;
 
 // Completes a draft: 0 or the number of a refusal, and after 0 the response and its length.
 pub fn uaf_complete(
@@ -44,10 +44,9 @@ pub fn uaf_signed_part(response: &[u8], place: &mut usize, part_len: &mut usize)
     ensures { points result place.new part_len.new
         ≡ pointed (read_response response.now) (points 0 place.old part_len.old) }
 {
-    let shape = shape_of(response);
-    match shape {
-        Shape::NoResponse => NOT_WRITTEN,
-        Shape::Response(p) => {
+    match shape_of(response) {
+        None => u32::from(Refusal::NotWritten),
+        Some(p) => {
             *place = p.start;
             *part_len = p.len();
             0
@@ -70,12 +69,13 @@ pub fn uaf_read_fields(
         ≡ returned_fields (read_response response.now)
         (gets_fields 0 tag.old status.old count.old tags.old places.old lengths.old) }
 {
-    let r = read_fields(response, tags, places, lengths);
-    if r.refusal != 0 {
-        return r.refusal;
+    match read_fields(response, tags, places, lengths) {
+        Err(refusal) => u32::from(refusal),
+        Ok(r) => {
+            *tag = r.tag;
+            *status = r.status;
+            *count = r.count;
+            0
+        }
     }
-    *tag = r.tag;
-    *status = r.status;
-    *count = r.count;
-    0
 }

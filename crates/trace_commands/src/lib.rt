@@ -7,7 +7,7 @@ mod values;
 pub mod withdrawals;
 
 use crate::values::run_by_value;
-use params::lent::Numbers;
+use params::lent::{Lent, Numbers};
 use script::slots::{FILL, MOST, NO_ANSWER, Slot, Slots, UNSET};
 use script::text::{Detail, adler, write_written};
 use std::io;
@@ -29,35 +29,43 @@ struct Given {
     table_len: usize,
 }
 
-// The lent numbers in the slots.
-fn numbers_in(slots: &Slots) -> Numbers {
-    Numbers {
+// What a call is lent beside its command, from the slots.
+fn lent_in(slots: &Slots) -> Lent<'_> {
+    let numbers = Numbers {
         version: slots.number(Slot::Version),
         signature_algorithm: slots.number(Slot::SignatureAlgorithm),
         key_algorithm: slots.number(Slot::KeyAlgorithm),
         verdict: slots.number(Slot::Verdict),
         display: slots.number(Slot::Display),
+    };
+    Lent {
+        aaid: slots.arg(Slot::Aaid),
+        numbers,
+        metadata: slots.arg(Slot::Metadata),
+        key_id: slots.arg(Slot::KeyId),
+        public_key: slots.arg(Slot::PublicKey),
+        nonce: slots.arg(Slot::Nonce),
     }
 }
 
 // Calls with the arguments in the slots and two outputs.
 fn call(slots: &Slots, response: &mut [u8], table_out: &mut [u8]) -> Given {
-    let numbers = numbers_in(slots);
+    let lent = lent_in(slots);
     let mut answer = NO_ANSWER;
     let mut response_len = UNSET;
     let mut table_len = UNSET;
     let code = uaf_command(
         slots.arg(Slot::Command),
-        slots.arg(Slot::Aaid),
-        numbers.version,
-        numbers.signature_algorithm,
-        numbers.key_algorithm,
-        slots.arg(Slot::Metadata),
-        numbers.verdict,
-        numbers.display,
-        slots.arg(Slot::KeyId),
-        slots.arg(Slot::PublicKey),
-        slots.arg(Slot::Nonce),
+        lent.aaid,
+        lent.numbers.version,
+        lent.numbers.signature_algorithm,
+        lent.numbers.key_algorithm,
+        lent.metadata,
+        lent.numbers.verdict,
+        lent.numbers.display,
+        lent.key_id,
+        lent.public_key,
+        lent.nonce,
         slots.arg(Slot::Table),
         response,
         table_out,

@@ -4,9 +4,10 @@
 //   NAME: by value, refusal N SUM           the call is refused; then what storing the table that came back gives
 //   NAME: by value, response or draft ..    what was written into the response output; then the same
 // and the table that came back is told by ` table ..`, what was written of its stored form, or by ` store N SUM`, if storing is refused.
-use crate::{kind_of, numbers_in};
-use by_value::{Answered, Ran, run, withdraw};
-use fields::refusals::Written;
+use crate::{kind_of, lent_in};
+use by_value::withdraw::withdraw;
+use by_value::{Answer, run};
+use fields::refusals::Refusal;
 use key_table::forms::{load, store};
 use key_table::records::Table;
 use script::slots::{Slot, Slots};
@@ -55,75 +56,57 @@ fn spoil(t: Table, how: u32) -> Table {
     }
 }
 
-// Calls with the arguments in the slots, a table and the response output.
-fn call(slots: &Slots, t: Table, response: &mut [u8]) -> Ran {
-    run(
-        slots.arg(Slot::Command),
-        slots.arg(Slot::Aaid),
-        numbers_in(slots),
-        slots.arg(Slot::Metadata),
-        slots.arg(Slot::KeyId),
-        slots.arg(Slot::PublicKey),
-        slots.arg(Slot::Nonce),
-        t,
-        response,
-    )
-}
-
 // Says what the call gave.
-fn tell_answered(rt: &impl Print, answered: Answered, response: &[u8]) -> io::Result<()> {
+fn tell_answered(
+    rt: &impl Print,
+    answered: Result<Answer, Refusal>,
+    response: &[u8],
+) -> io::Result<()> {
     match answered {
-        Answered::Refused(n) => print!(rt; "refusal {n} {}", adler(response)),
-        Answered::Gave { draft, len } => {
-            print!(rt; "{}", kind_of(draft as u32))?;
-            write_written(rt, response, len, Detail::Whole)
+        Err(refusal) => print!(rt; "refusal {} {}", u32::from(refusal), adler(response)),
+        Ok(answer) => {
+            print!(rt; "{}", kind_of(u32::from(answer.draft)))?;
+            write_written(rt, response, answer.len, Detail::Whole)
         }
     }
 }
 
-// Stores the table that came back from a call and says what that gave. The stored form is kept for the next call, if there is one and the call was not
-// refused.
-fn hand_back(
+// Stores the table that came back from a call and says what that gave: the stored form, if there is one.
+fn hand_back<'a>(
     rt: &impl Print,
     t: Table,
-    refused: bool,
     detail: Detail,
-    slots: &mut Slots,
-    table_out: &mut [u8],
-) -> io::Result<()> {
+    table_out: &'a mut [u8],
+) -> io::Result<Option<&'a [u8]>> {
     match store(t, table_out) {
-        Written::Refused(n) => print!(rt; " store {n} {}", adler(table_out)),
-        Written::Wrote(n) => {
-            print!(rt; " table")?;
-            write_written(rt, table_out, n, detail)?;
-            if !refused && let Some(table) = table_out.get(..n) {
-                slots.store(Slot::Table, table);
-            }
-            Ok(())
+        Err(refusal) => {
+            print!(rt; " store {} {}", u32::from(refusal), adler(table_out))?;
+            Ok(None)
         }
-    }
-}
-
-// Whether a call was refused.
-fn is_refused(answered: Answered) -> bool {
-    match answered {
-        Answered::Refused(_) => true,
-        Answered::Gave { .. } => false,
+        Ok(len) => {
+            print!(rt; " table")?;
+            write_written(rt, table_out, len, detail)?;
+            Ok(table_out.get(..len))
+        }
     }
 }
 
 // The table in its slot, spoilt if the script asks for it; if the slot has the stored form of no table, says so.
 fn table_in(rt: &impl Print, slots: &Slots) -> io::Result<Option<Table>> {
-    let loaded = load(slots.arg(Slot::Table));
-    if loaded.refusal != 0 {
-        print!(rt; "load {}", loaded.refusal)?;
-        return Ok(None);
+    match load(slots.arg(Slot::Table)) {
+        Err(refusal) => {
+            print!(rt; "load {}", u32::from(refusal))?;
+            Ok(None)
+        }
+        Ok(t) => {
+            print!(rt; "by value, ")?;
+            Ok(Some(spoil(t, slots.number(Slot::Spoilt))))
+        }
     }
-    print!(rt; "by value, ")?;
-    Ok(Some(spoil(loaded.table, slots.number(Slot::Spoilt))))
 }
 
-// Calls with the table in its slot, if there is one: says what that gave and hands back the table left.
+// Calls with the table in its slot, if there is one, says what that gave, hands back the table left and keeps its stored form after a call that is not
+// refused.
 pub fn run_by_value(
     rt: &impl Print,
     detail: Detail,
@@ -134,20 +117,17 @@ pub fn run_by_value(
     let Some(t) = table_in(rt, slots)? else {
         return Ok(());
     };
-    let ran = call(slots, t, response);
-    let answered = ran.answered;
-    tell_answered(rt, answered, response)?;
-    hand_back(
-        rt,
-        ran.table,
-        is_refused(answered),
-        detail,
-        slots,
-        table_out,
-    )
+    let ran = run(slots.arg(Slot::Command), &lent_in(slots), t, response);
+    tell_answered(rt, ran.answered, response)?;
+    let form = hand_back(rt, ran.table, detail, table_out)?;
+    if let (Ok(_), Some(form)) = (ran.answered, form) {
+        slots.store(Slot::Table, form);
+    }
+    Ok(())
 }
 
-// Withdraws from the table in its slot, if there is one: says what that gave and hands back the table left.
+// Withdraws from the table in its slot, if there is one, says what that gave, hands back the table left and keeps its stored form after a withdrawal that
+// is not refused.
 pub fn withdraw_by_value(
     rt: &impl Print,
     slots: &mut Slots,
@@ -156,11 +136,14 @@ pub fn withdraw_by_value(
     let Some(t) = table_in(rt, slots)? else {
         return Ok(());
     };
-    let done = withdraw::withdraw(slots.arg(Slot::Mixed), slots.arg(Slot::KeyId), t);
-    match done.refusal {
-        0 => print!(rt; "withdrawn")?,
-        n => print!(rt; "refusal {n}")?,
+    let withdrew = withdraw(slots.arg(Slot::Mixed), slots.arg(Slot::KeyId), t);
+    match withdrew.done {
+        Ok(()) => print!(rt; "withdrawn")?,
+        Err(refusal) => print!(rt; "refusal {}", u32::from(refusal))?,
     }
-    let refused = done.refusal != 0;
-    hand_back(rt, done.table, refused, Detail::Whole, slots, table_out)
+    let form = hand_back(rt, withdrew.table, Detail::Whole, table_out)?;
+    if let (Ok(()), Some(form)) = (withdrew.done, form) {
+        slots.store(Slot::Table, form);
+    }
+    Ok(())
 }

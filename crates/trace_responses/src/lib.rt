@@ -3,7 +3,7 @@
 
 use response_reader::readings::MOST_FIELDS;
 use response_reader::signed::signed_part;
-use script::slots::{FILL, MOST, NO_ANSWER, Slot, Slots, UNSET};
+use script::slots::{FILL, MOST, Slot, Slots, UNSET};
 use script::text::{Given, adler};
 use std::io;
 use token::responses::{uaf_complete, uaf_read_fields, uaf_signed_part};
@@ -120,8 +120,10 @@ fn tell_signed(rt: &impl Print, s: &[u8]) -> io::Result<()> {
     let mut length = UNSET;
     let code = uaf_signed_part(s, &mut place, &mut length);
     print!(rt; "signed {code} {place} {length}")?;
-    let mut refusal = NO_ANSWER;
-    let part = signed_part(s, &mut refusal);
+    let (refusal, part) = match signed_part(s) {
+        Ok(part) => (0, part),
+        Err(refusal) => (u32::from(refusal), &s[..0]),
+    };
     print!(rt; " part {refusal} {} {}", part.len(), adler(part))
 }
 

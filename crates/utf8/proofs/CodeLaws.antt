@@ -21,16 +21,6 @@ use Rattle.utf8.proofs.WindowLaws.{each_at}
 
 -- ---- tests joined
 
-pub all_three : (x y z : Bool) → not (not x || not y || not z) ≡ (x && y && z)
-all_three true true true = refl
-all_three true true false = refl
-all_three true false z = refl
-all_three false y z = refl
-
-pub none_wrong : {w : Bool} (p : Bool) → w ≡ not p → not w ≡ p
-none_wrong true e = rw e
-none_wrong false e = rw e
-
 pub next_place : (s : List ℕ) (at i : ℕ) {w m : Bool} → w ≡ not (places i s at)
     → m ≡ not (stands (get_or s (at + i) 0) (get_or s (at + i + 1) 0) (get_or s (at + i + 2) 0) (get_or s (at + i + 3) 0))
     → (w || m) ≡ not (places (i + 1) s at)

@@ -2,10 +2,8 @@
 use Rattle.token.proofs.EntryLaws.{entry_refuses, entry_gives}
 use Rattle.token.proofs.uaf_command.Goals as goal
 
-pub returns-in-Refused : goal.returns-in-Refused
-returns-in-Refused c =
-    entry_refuses _ _ _ _ _ _ _ c.call-outcome.ensures c.in-Refused.is
+pub returns-in-Err : goal.returns-in-Err
+returns-in-Err c = entry_refuses _ _ _ _ _ _ _ c.call.ensures c.in-Err.is c.from.ensures
 
-pub returns-in-Gave : goal.returns-in-Gave
-returns-in-Gave c =
-    entry_gives _ _ _ _ _ _ _ _ _ _ c.call-outcome.ensures c.in-Gave.is c.draft_number.ensures
+pub returns-in-Ok : goal.returns-in-Ok
+returns-in-Ok c = entry_gives _ _ _ _ _ _ _ _ c.call.ensures c.in-Ok.is c.draft_number.ensures

@@ -10,7 +10,7 @@ use Rattle.authenticator.proofs.call.perform.Goals.{After-mixed_token-mixed}
 pub returns : goal.returns
 returns c =
     rw (← c.lent.view_is)
-    (ends-gave c.decide-decision.ensures _ _ _ _ c.mixed_token-mixed.ensures _ _ c.is_draft.ensures c.write_reply.ensures
+    (ends-gave c.decide-decision.ensures _ _ _ _ c.mixed_token-mixed.ensures _ _ c.is_draft.ensures (rw (← c.lent.view_is) at c.write_reply.ensures)
     c.put_left-table_len.ensures)
 
 pub mixed_token-mixed-requires : goal.mixed_token-mixed-requires
@@ -44,7 +44,11 @@ write_reply-requires c =
     let e = c.reply_len-response_len.ensures in
     let lent = rw (← c.lent.view_is) at s.lent_value in
     let fits = reply-fits k _ _ _ _ lent _ _ s.indexed.ok e s.room.0 in
-    record { ready = reply-ready k _ _ _ _ lent; indexed = s.indexed; len_value = (e, fits) }
+    record {
+      ready = rw (← c.lent.view_is) (reply-ready k _ _ _ _ lent);
+      indexed = s.indexed;
+      len_value = (rw (← c.lent.view_is) e, fits);
+    }
 
 pub put_left-table_len-requires : goal.put_left-table_len-requires
 put_left-table_len-requires c =

@@ -19,6 +19,3 @@ loop-turn-preserved c =
       as_many _ x (4 * t + 20) (4 * (t + 1) + 16) (omega arith) more,
       four_more _ x (4 * t) (4 * (t + 1)) (4 * t + 20) _ _ _ (omega arith) (omega arith) more c.four-s.ensures c.loop-turn.invariant.2,
     )
-
-pub returns : goal.returns
-returns c = let e : c.loop-turn.turn ≡ 16 = omega arith in rw e at c.loop-turn.invariant.2

@@ -3,4 +3,4 @@ use Rattle.command_writer.proofs.WriterLaws.{deregister_counts}
 use Rattle.command_writer.proofs.writers.DeregisterCommand.len.Goals as goal
 
 pub returns : goal.returns
-returns c = deregister_counts _ _ _ _ c.opening_len.ensures.0 c.one_len.ensures.0 c.one_len-2.ensures.0
+returns c = deregister_counts c.args.self.now c.opening_len.ensures.0 c.one_len.ensures.0 c.one_len-2.ensures.0
