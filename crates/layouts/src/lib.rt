@@ -1,5 +1,6 @@
 // Structures whose fields stand in a fixed order, read from place to place: each function gives the place where the next thing starts, and
 // one past the stretch's end where something else stands. Nothing is found there, so a structure is read without a test between its fields.
+// A place past the end, and no Option, is what the definitions of specs/Places give: a chain of calls then has one proof line and no branch in it.
 // What is asked of a field is given as constants, so that each call is compiled to a few comparisons.
 #![tactic(auto)]
 

@@ -41,11 +41,6 @@ headed-is {s} e =
     record { long = leb-true _ _ a; whole = eqb-true _ _ b; status = eqb-true _ _ c; two = eqb-true _ _ d }
 
 -- by the numbers that were read
-pub headed_as : (s : List ℕ) {n t m : ℕ} → 10 ≤ length s → n ≡ num_at 2 s 2 → t ≡ num_at 2 s 4 → m ≡ num_at 2 s 6
-    → headed s ≡ (eqb n (length s - 4) && eqb t (tag_of ok) && eqb m 2)
-unfolding headed
-headed_as s h e f g = rw (le-leb _ _ h, e, f, g)
-
 is-headed : {s : List ℕ} → Headed s → headed s ≡ true
 unfolding headed
 is-headed h = both (both (both (le-leb _ _ h.long) (eq-eqb _ _ h.whole)) (eq-eqb _ _ h.status)) (eq-eqb _ _ h.two)

@@ -31,7 +31,7 @@ use Rattle.response_reader.specs.Met.{met, span_of, signed_met}
 use Rattle.response_reader.specs.Responses.{alone, headed, Opened, Longer, in_assertion}
 use Rattle.response_reader.specs.Shapes.{shape_of, signed_at, OpeningIs}
 use Rattle.response_reader.specs.declared.shapes.Opening.{Opening}
-use Rattle.response_reader.specs.declared.shapes.Opening.TheVariants.{Alone, Longer as MoreAfter}
+use Rattle.response_reader.specs.declared.shapes.Opening.TheVariants.{Alone}
 use Rattle.response_reader.proofs.MetLaws.{met-tlv, parts-met}
 use Rattle.response_reader.proofs.OpeningLaws.{Headed, headed-is, status_in, status-is, opened}
 use Rattle.response_reader.proofs.ShapeLaws.{then_assertion, alone-any, alone-is, status_bad, info-is, registered-is, signed_is}
@@ -211,14 +211,8 @@ more_after s h b l f = status-no (headed-is h) b refl l f
 
 -- by how it starts
 module _ (s : List ℕ) {r : Option Opening} (i : OpeningIs s r) where
-  pub opening_no : r ≡ None → is_response s ≡ false
-  opening_no e = rw e at i
-
   pub opening-alone : r ≡ Some Alone → (is_response s ≡ true) × (Some no_span ≡ shape_of s)
   opening-alone e = let k : (is_response s ≡ true) × (no_span ≡ signed_met s) = rw e at i in (k.0, shape_yes s k.0 k.1)
-
-  pub opening_longer : {t : ℕ} → r ≡ Some (MoreAfter t) → Longer t s
-  opening_longer e = rw e at i
 
 -- ---- what it says of the stretch
 

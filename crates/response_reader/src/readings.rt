@@ -28,7 +28,7 @@ struct Columns<'a> {
 impl Columns<'_> {
     // A field more.
     fn push(&mut self, tag: usize, place: usize, len: usize)
-        requires { self.old.count < 17 }
+        requires { self.old.count < MOST_FIELDS }
         ensures same { Same self.old self.new }
         ensures counted { self.new.count ≡ self.old.count + 1 }
         ensures more { (ps : List Part) → held self.old ≡ parts_of ps → held self.new ≡ parts_of (ps ++ part_at tag place len ∷ []) }
@@ -123,6 +123,7 @@ fn name_fields(s: &[u8], columns: &mut Columns)
     ensures listed { held columns.new ≡ parts_of (field_parts s.now) }
 {
     let mut at = 10;
+    // Each pair is as long as its header says, so no range gives their places.
     while at < s.len() {
         let n = get16(s, at + 4 + 2);
         let name = at + 4 + 4;
@@ -133,7 +134,7 @@ fn name_fields(s: &[u8], columns: &mut Columns)
 }
 
 // The fields of a response. Its shape says where they stand.
-fn list_fields(s: &[u8], columns: &mut Columns)
+fn parts_in(s: &[u8], columns: &mut Columns)
     requires form { is_response s.now ≡ true }
     requires begun { held columns.old ≡ parts_of [] }
     requires none { columns.old.count ≡ 0 }
@@ -179,6 +180,7 @@ pub fn read_fields(
     if !is_response(s) {
         return Err(Refusal::NotWritten);
     }
+    // Made here and not by a function of its own: of a reference that goes through one, a proof no longer knows what it leaves.
     *tags = [0; MOST_FIELDS];
     *places = [0; MOST_FIELDS];
     *lengths = [0; MOST_FIELDS];
@@ -188,7 +190,7 @@ pub fn read_fields(
         lengths,
         count: 0,
     };
-    list_fields(s, &mut columns);
+    parts_in(s, &mut columns);
     Ok(Reading {
         tag: get16(s, 0),
         status: get16(s, 8),

@@ -31,6 +31,7 @@ fn is_info(s: &[u8]) -> bool
 }
 
 // The place of what the assertion holds in a completed response.
+#[tactic(auto, unfolding(crate::specs::Responses::in_assertion))]
 fn assertion_in(s: &[u8], assertion: usize) -> usize
     ensures { result ≡ in_assertion assertion s.now }
 {
@@ -93,19 +94,14 @@ fn signed_in(s: &[u8]) -> Span
 }
 
 // Whether a stretch is one TLV that starts with a status. Tag and status are not looked at.
+#[tactic(auto, unfolding(crate::specs::Responses::headed))]
 fn is_headed(s: &[u8]) -> bool
     ensures { result ≡ headed s.now }
 {
-    if s.len() < 10 {
-        return false;
-    }
-    if get16(s, 2) != s.len() - 4 {
-        return false;
-    }
-    if get16(s, 4) != tags::STATUS_CODE {
-        return false;
-    }
-    get16(s, 6) == 2
+    10 <= s.len()
+        && get16(s, 2) == s.len() - 4
+        && get16(s, 4) == tags::STATUS_CODE
+        && get16(s, 6) == 2
 }
 
 // Whether the command with this response tag can answer this status alone.
@@ -155,7 +151,9 @@ enum Opening {
     Longer(usize),
 }
 
-// How a stretch starts, if as a response, by its headers and its status, each read once at its place.
+// How a stretch starts, if as a response, by its headers and its status, each read once at its place. Made part of both its callers, so that a status
+// alone is judged without a call.
+#[inline]
 #[tactic(auto, using(crate::proofs::SignedLaws::more_after))]
 fn opening_of(s: &[u8]) -> Option<Opening>
     ensures { OpeningIs s.now result }

@@ -224,7 +224,8 @@ module _ (off : ℕ) (at s : List ℕ) where
           cc
 
       -- its mark written behind those of the rows before it
-      pub marks-more : (ms : List ℕ) {m : ℕ} → i < length ms → m ≡ mark (row (get_or at i 0 + off) s) → take i ms ≡ take i (map mark (rows off at s))
+      pub marks-more : (ms : List ℕ) {m : ℕ} → i < length ms → m ≡ mark (row (get_or at i 0 + off) s)
+          → take i ms ≡ take i (map mark (rows off at s))
           → take (i + 1) (set ms i m) ≡ take (i + 1) (map mark (rows off at s))
       marks-more ms {m} k e f =
           rw (add-one, take-suc-set ms i m k, f, e, take-suc (map mark (rows off at s)) i 0 (omega (arith, length_marks)), mark-at)

@@ -31,8 +31,8 @@ returns-then-not-is_supported c =
     )
 
 -- the first three checks pass
-passed : (c : Else-not-is_supported) → let a = c.args in Admitted a.command.now a.numbers.verdict
-passed c =
+first_three : (c : Else-not-is_supported) → let a = c.args in Admitted a.command.now a.numbers.verdict
+first_three c =
     let b = breaks_none c.requires.params_read c.if-params.false in
     let h = (placed c.requires.params_read c.if-params.false).attestation-type in
     record {
@@ -46,7 +46,7 @@ fresh c = sym c.is_stored.ensures ∙ c.if-is_stored.false
 
 pub returns-then-is_stored : goal.returns-then-is_stored
 returns-then-is_stored c =
-    let p = passed (goal.at.returns-then-is_stored c).Else-not-is_supported in
+    let p = first_three (goal.at.returns-then-is_stored c).Else-not-is_supported in
     sym (admitted _ _ _ _ _ _ _ p ∙ rw (sym c.is_stored.ensures ∙ c.if-is_stored.true))
 
 -- no place: by the caller's records, or by how many places there are, which is how many records
@@ -66,13 +66,13 @@ full c =
 pub returns-then-own_count-ge-MAX_OWN : goal.returns-then-own_count-ge-MAX_OWN
 returns-then-own_count-ge-MAX_OWN c =
     let back = goal.at.returns-then-own_count-ge-MAX_OWN c in
-    sym (admitted _ _ _ _ _ _ _ (passed back.Else-not-is_supported)
+    sym (admitted _ _ _ _ _ _ _ (first_three back.Else-not-is_supported)
     ∙ rw (fresh back.Else-is_stored, full back.Joined-then-own_count-ge-MAX_OWN))
 
 pub returns : goal.returns
 returns c =
     let back = goal.at.returns c in
-    sym (admitted _ _ _ _ _ _ _ (passed back.Else-not-is_supported)
+    sym (admitted _ _ _ _ _ _ _ (first_three back.Else-not-is_supported)
     ∙ rw (
       fresh back.Else-is_stored,
       lt-leb _ _ (rw c.own_count.ensures at c.if-own_count-ge-MAX_OWN.false),

@@ -14,12 +14,12 @@ pub returns-then-not-is_response : goal.returns-then-not-is_response
 unfolding reading_of
 returns-then-not-is_response c = rw (not_read _ (sym c.is_response.ensures ∙ c.if-not-is_response.true))
 
-pub list_fields-requires-clause-form : goal.list_fields-requires-clause-form
-list_fields-requires-clause-form c = sym c.is_response.ensures ∙ c.if-not-is_response.false
+pub parts_in-requires-clause-form : goal.parts_in-requires-clause-form
+parts_in-requires-clause-form c = sym c.is_response.ensures ∙ c.if-not-is_response.false
 
-pub list_fields-requires-clause-begun : goal.list_fields-requires-clause-begun
+pub parts_in-requires-clause-begun : goal.parts_in-requires-clause-begun
 unfolding firsts parts_of
-list_fields-requires-clause-begun c = refl
+parts_in-requires-clause-begun c = refl
 
 pub get16-requires : goal.get16-requires
 get16-requires c = omega (arith, headed-is (response-headed _ (sym c.is_response.ensures ∙ c.if-not-is_response.false)))
@@ -29,8 +29,8 @@ get16-requires-2 c = omega (arith, headed-is (response-headed _ (sym c.is_respon
 
 pub returns : goal.returns
 returns c =
-    let e = read-fields c.args.tags.now c.args.places.now c.args.lengths.now (sym c.is_response.ensures ∙ c.if-not-is_response.false) c.get16.ensures c.get16-2.ensures c.list_fields.ensures.listed in
-    let i = c.list_fields.ensures.same in
+    let e = read-fields c.args.tags.now c.args.places.now c.args.lengths.now (sym c.is_response.ensures ∙ c.if-not-is_response.false) c.get16.ensures c.get16-2.ensures c.parts_in.ensures.listed in
+    let i = c.parts_in.ensures.same in
     let ts = sym i.tags in
     let ps = sym i.places in
     let ls = sym i.lengths in

@@ -9,7 +9,8 @@ loop-i-init c = (search rules, paste-zero _ c.args.at c.args.src.now)
 
 pub loop-i-preserved : goal.loop-i-preserved
 loop-i-preserved c =
-    (omega arith, paste_over _ _ _ c.loop-i.i c.loop-i.i 16 refl (omega arith) (omega arith) (omega arith) (omega arith) c.loop-i.invariant.1 c.put_block.ensures)
+    let i = c.loop-i.i in
+    (omega arith, paste_over _ _ _ i i 16 refl (omega arith) (omega arith) (omega arith) (omega arith) c.loop-i.invariant.1 c.put_block.ensures)
 
 pub returns : goal.returns
 returns c =

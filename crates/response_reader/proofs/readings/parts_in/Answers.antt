@@ -1,7 +1,7 @@
 -- Which shape a response has is known by its length, its outer tag and the tag after its status.
 use native.Mathlib.Omega.{arith}
 use Rattle.response_reader.proofs.ShapedLaws.{status-rows, info-rows, is-info, is_registration, is-signature, is-names, more-there}
-use Rattle.response_reader.proofs.readings.list_fields.Goals as goal
+use Rattle.response_reader.proofs.readings.parts_in.Goals as goal
 
 pub returns-then-s-eq10-clause-listed : goal.returns-then-s-eq10-clause-listed
 returns-then-s-eq10-clause-listed c = rw (status-rows _ c.requires.form c.if-s-eq10.true) (c.push.ensures.more _ c.requires.begun)
