@@ -4,7 +4,7 @@ use mathlib.Core.Path.{◌≡◌, refl, ap, ◌∙◌}
 use mathlib.Core.Bool.{Bool, true, ◌&&◌}
 use mathlib.Core.List.{List, [], ◌∷◌, ◌++◌, map}
 use mathlib.Core.Option.{none, some}
-use Prim.Native.Nat.{ℕ, zero, suc, ◌+◌, ◌*◌, ◌≤◌}
+use Prim.Native.Nat.{ℕ, zero, suc, ◌+◌, ◌*◌, ◌-◌, ◌≤◌, ◌<◌}
 use native.Mathlib.Omega.{arith}
 use lib.ListN.{length, take, drop, length-append, length-map, length-drop}
 use lib.Seq.{length-take-le, drop-drop}
@@ -125,3 +125,11 @@ handle_more (suc n) s =
     let e : 32 * suc n ≡ 32 + 32 * n = omega arith in
     let z : suc n + 1 ≡ suc (n + 1) = omega arith in
     rw (e, z, ← drop-drop (32 * n) 32 s) (ap (λ ts. tlv 0x2801 (take 32 s) ∷ ts) ih)
+
+-- the part from 32 n up to 32 bytes on
+module _ (n k : ℕ) (s : List ℕ) (h : n < k) (l : length s ≡ 32 * k) where
+  pub handle_part : take (32 * n + 32 - 32 * n) (drop (32 * n) s) ≡ take 32 (drop (32 * n) s)
+  handle_part = let e : 32 * n + 32 - 32 * n ≡ 32 = omega arith in rw e
+
+  pub handle_size : length (take (32 * n + 32 - 32 * n) (drop (32 * n) s)) ≡ 32
+  handle_size = rw handle_part (length-take-le 32 (drop (32 * n) s) (omega (arith, length-drop (32 * n) s)))

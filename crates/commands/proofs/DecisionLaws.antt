@@ -35,17 +35,21 @@ use Rattle.commands.specs.Decisions.{decision, passed, decision_of, Decides, Dec
 -- ---- the first check that fails
 
 -- what becomes of what checks gave
-abbrev outcome : {A B : Type 0} → (ℕ → A) → A → Result B → A
+abbrev pub outcome : {A B : Type 0} → (ℕ → A) → A → Result B → A
 outcome says all (refused n) = says n
 outcome says all (gave v) = all
 
--- by one judgment that one fails, it is the first in every other
+-- a judgment by the same checks
+pub judge-is : (cs : List Check) {A B : Type 0} (says : ℕ → A) (all : A) {r : Result B} (v : B) → r ≡ judge cs refused (gave v)
+    → judge cs says all ≡ outcome says all r
+judge-is cs says all v e = sym (ap (outcome says all) e ∙ judge-map (outcome says all) cs refused (gave v))
+
+-- by one that one fails, it is the first in every other
 pub judge_failed : (cs : List Check) {A B : Type 0} (says : ℕ → A) (all : A) {n : ℕ} (v : B) → refused n ≡ judge cs refused (gave v)
     → judge cs says all ≡ says n
-unfolding judge
-judge_failed cs says all {n} v e = sym (ap (outcome says all) e ∙ judge-map (outcome says all) cs refused (gave v))
+judge_failed cs says all v e = judge-is cs says all v e
 
--- by one judgment that none fails, each passes
+-- by one that none fails, each passes
 pub judge_passed : (cs : List Check) {B : Type 0} {u : B} (v : B) → gave u ≡ judge cs refused (gave v) → Passed cs
 judge_passed cs {u = u} v e = judged (λ r. gave u ≡ r → Passed cs) cs refused (gave v) (λ n f. impossible cc) (λ p f. p) e
 

@@ -12,7 +12,7 @@ use Rattle.std.specs.Prelude.{Ok, Err}
 use Rattle.model.specs.Lists.{empty}
 use Rattle.model.specs.Tlv.{le, fits, signature, certificate, full, surrogate, krd_tag}
 use Rattle.model.specs.Layouts.{end, reads}
-use Rattle.model.specs.Commands.{judge, gave, key_registration_data, signed_data, least_output}
+use Rattle.model.specs.Commands.{judge, refused, gave, key_registration_data, signed_data, least_output}
 use Rattle.model.specs.Complete.{Completion, drafts_of, is_draft, completion_ok, completed, complete}
 use Rattle.model.proofs.Basics.{split, and_left, and_right}
 use Rattle.model.proofs.LayoutLaws.{most, fits-most}
@@ -116,15 +116,28 @@ pub record Passes (x : Completion) : Type 0 where
   pub seal : completion_ok x ≡ true
 
 -- the first that fails says which refusal it is
+module _ (x : Completion) where
+  pub refused-short : x.output < least_output → complete x ≡ refused 1
+  unfolding complete judge
+  refused-short h = rw (lt-ltb _ _ h)
+
+  module _ (h : least_output ≤ x.output) where
+    pub refused-draft : is_draft x.kind x.draft ≡ false → complete x ≡ refused 5
+    unfolding complete judge
+    refused-draft d = rw (le-ltb _ _ h, d)
+
+    pub refused-lent : is_draft x.kind x.draft ≡ true → completion_ok x ≡ false → complete x ≡ refused 4
+    unfolding complete judge
+    refused-lent d l = rw (le-ltb _ _ h, d, l)
+
+-- and the function tells it
 module _ (x : Completion) {out : List ℕ} where
   pub short_ends : x.output < least_output → ended (Err ShortOutput) out ≡ ends (complete x) out
-  unfolding complete judge
-  short_ends h = ends-refused ShortOutput (rw (lt-ltb _ _ h))
+  short_ends h = ends-refused ShortOutput (refused-short x h)
 
   module _ (h : least_output ≤ x.output) where
     no-draft : is_draft x.kind x.draft ≡ false → ended (Err NotWritten) out ≡ ends (complete x) out
-    unfolding complete judge
-    no-draft d = ends-refused NotWritten (rw (le-ltb _ _ h, d))
+    no-draft d = ends-refused NotWritten (refused-draft x h d)
 
     -- of a number that no kind has, and of a draft that its kind has not
     pub no_kind-ends : ((k : Kind) → x.kind ≡ kind_number k → ⊥) → ended (Err NotWritten) out ≡ ends (complete x) out
@@ -136,8 +149,8 @@ module _ (x : Completion) {out : List ℕ} where
 
       pub lent-ends : a ≡ true → {b : Bool} → b ≡ completion_ok (completion (kind_number k) [] x.type x.signature x.certificate 0) → b ≡ false
           → ended (Err WrongLent) out ≡ ends (complete x) out
-      unfolding complete judge completion_ok
-      lent-ends d j l = ends-refused WrongLent (rw (le-ltb _ _ h, e, ← i, d, ← j, l))
+      unfolding completion_ok
+      lent-ends d j l = ends-refused WrongLent (refused-lent x h (rw (e, ← i) d) (rw (e, ← j) l))
 
 -- the draft and the output are no part of what is asked of a seal
 pub passed : (x : Completion) → least_output ≤ x.output → (k : Kind) → x.kind ≡ kind_number k → is_draft (kind_number k) x.draft ≡ true
