@@ -11,7 +11,7 @@ import pathlib
 import re
 import sys
 
-# The source's constants, and what they are called in the header.
+# The source's constants and variants, and what they are called in the header.
 REFUSALS = {
     "SHORT_OUTPUT": "OUTPUT", "BROKEN_TABLE": "TABLE", "NO_COMMAND": "COMMAND", "WRONG_LENT": "LENT", "NOT_WRITTEN": "BYTES",
     "BAD_FIELD": "FIELD", "NOT_WITHDRAWABLE": "WITHDRAWAL",
@@ -65,8 +65,11 @@ def declared(header, numbers):
 
 
 def constants(source):
-    """The numbers that a source file names."""
-    return {name: int(number, 0) for name, number in re.findall(r"^(?:pub )?const (\w+): \w+ = (0x\w+|\d+);", source, re.M)}
+    """The numbers that a source file names: its constants, and by their names in capitals the variants that have a number."""
+    named = re.findall(r"^(?:pub )?const (\w+): \w+ = (0x\w+|\d+);", source, re.M)
+    variants = re.findall(r"^    ([A-Z]\w*) = (0x\w+|\d+),", source, re.M)
+    named += [(re.sub(r"(?<!^)(?=[A-Z])", "_", name).upper(), number) for name, number in variants]
+    return {name: int(number, 0) for name, number in named}
 
 
 def listed(header, name):
