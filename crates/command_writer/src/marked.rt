@@ -9,7 +9,7 @@ ghost use Rattle.command_writer.specs.Parts.{marked_tlvs, marked_size};
 use crate::lengths::{TOO_LONG, one_len};
 use tlv::writer::put_tlv;
 
-// The marks. Any other number is none.
+// The marks. They stay numbers, as C lends them: any other is none, and a field that has it is refused.
 const NOT_GIVEN: u32 = 0;
 
 const GIVEN: u32 = 1;

@@ -4,6 +4,8 @@ ghost use Rattle.replies.specs.Statuses.{number};
 
 use replies::status::Status;
 
+// Verdict and display result stay the numbers that C lends; what is lent is refused where they are none of these.
+
 // The status of a verdict: denied, not enrolled, cancelled, no reply, locked out.
 pub fn verdict_status(verdict: u32) -> Status
     ensures { number result ≡ verdict_status verdict }

@@ -19,7 +19,7 @@ fn put_opening(out: &mut [u8], response: usize, assertion: usize, n: usize) -> u
     put_header(out, a2, assertion, n)
 }
 
-// The response to a Sign.
+// The response to a Sign. Nothing stands beside its signature, so it is no form of the registration below.
 pub fn put_sign(out: &mut [u8], draft: &[u8], signature: &[u8]) -> usize
     requires { (22 + (length draft.now + length signature.now) ≤ least_output) × (least_output ≤ length out.old) }
     ensures { Wrote out.old 0 (completed (completion 1 draft.now 0 signature.now [] 0)) result out.new result }

@@ -35,7 +35,7 @@ impl From<Status> for usize {
     }
 }
 
-// The number with which each response starts that says more than a status.
+// The number of OK, with which each response starts that says more than a status. Writers take a number, which put_status writes whatever it is.
 pub const OK: usize = Status::Ok as usize;
 
 // The tag of a command's response.

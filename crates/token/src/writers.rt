@@ -1,4 +1,4 @@
-// The writers of commands, with the fields of each in the order of its list. After 0 the first command_len bytes of the output are the command.
+// The writers of commands, with the fields of each in the order of its list, one by one as C lends them. After 0 the first command_len bytes of the output are the command.
 ghost use Rattle.std.specs.Prelude.{◌≡◌, length};
 ghost use Rattle.model.specs.Writer.{write_command, to_get_info, to_register, to_sign, to_deregister, to_open_settings};
 ghost use Rattle.token.specs.Written.{wrote, returned_bytes};
