@@ -300,3 +300,24 @@ module _ {table places : List ℕ} (x : Indexed table places) where
 
   pub mixed-are : rows mixed_at places table ≡ map (λ r. r.mixed) (table_in table)
   mixed-are = located_mixed table places t all_located
+
+  -- there are as many as the table that contracts see has records
+  pub counted : {t : model.Table} → table_in table ≡ t → length places ≡ length t
+  counted v = omega (arith, length-places, ap length v)
+
+  pub sized : {t : model.Table} → table_in table ≡ t → length table ≡ length (encode t)
+  sized v = rw (← v, x.whole)
+
+  -- its record i
+  module _ {t : model.Table} (v : table_in table ≡ t) (i : ℕ) (h : i < length t) where
+    pub has_place : i < length places
+    has_place = omega (arith, counted v)
+
+    pub stands_at : Stands table (get_or places i 0)
+    stands_at = (record-at i has_place).stands
+
+    pub stored_at : record_at table (get_or places i 0) ≡ get_or t i no_record
+    stored_at = rw (← v) (record-at i has_place).is
+
+    pub sized_at : name_size table (get_or places i 0) ≡ length (get_or t i no_record).name
+    sized_at = rw (← v) (record-at i has_place).size

@@ -176,8 +176,8 @@ own_going m k h (r ∷ t) =
     (λ e. rw e (ltb-suc _ (length t) ∙ ih))
 
 -- where n is the number of the first that would
-pub own_first : (m k : List ℕ) {table places : List ℕ} {n : ℕ} → Indexed table places → empty k ≡ false
-    → n ≡ 0 + stay_first m k (drop 0 (table_in table)) → ltb n (length places) ≡ among k (key_ids (own m (table_in table)))
-own_first m k {table} {n = n} x h e =
-    let first : n ≡ stay_first m k (table_in table) = omega arith in
-    rw (first, length-places x) (own_going m k h (table_in table))
+pub own_first : (m k : List ℕ) (t : model.Table) {n : ℕ} → empty k ≡ false → n ≡ 0 + stay_first m k (drop 0 t)
+    → ltb n (length t) ≡ among k (key_ids (own m t))
+own_first m k t {n} h e =
+    let first : n ≡ stay_first m k t = omega arith in
+    rw first (own_going m k h t)
