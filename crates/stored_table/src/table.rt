@@ -1,8 +1,8 @@
 #![tactic(auto, using(crate::proofs::IndexLaws::counted, crate::proofs::IndexLaws::has_place, crate::proofs::IndexLaws::stands_at, crate::proofs::IndexLaws::stored_at, crate::proofs::IndexLaws::sized_at))]
 
-ghost use Rattle.std.specs.Prelude.{◌≡◌, ◌<◌, length, get_or, MatchOption};
+ghost use Rattle.std.specs.Prelude.{◌≡◌, ◌<◌, true, length, get_or, MatchOption};
 ghost use Rattle.std.proofs.Math.Option.{none, some};
-ghost use Rattle.model.specs.Records.{decode};
+ghost use Rattle.model.specs.Records.{table_ok, decode};
 ghost use Rattle.stored_table.specs.Stored.{no_record};
 
 use crate::index::index_of;
@@ -38,6 +38,13 @@ impl<'a> StoredTable<'a> {
             bytes,
             places: &places[..len],
         })
+    }
+
+    // That it obeys the rules of a table: nothing is done, but contracts do not see it otherwise.
+    pub fn obeys_rules(&self)
+        ensures { table_ok self.now ≡ true }
+    {
+        let _ = &self.bytes;
     }
 
     // How many records it has.
