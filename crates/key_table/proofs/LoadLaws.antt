@@ -13,7 +13,7 @@ use Rattle.model.proofs.Rules.{obeys_rules}
 use Rattle.tlv.specs.Firsts.{firsts}
 use Rattle.tlv.proofs.FirstLaws.{length-firsts}
 use Rattle.stored_table.specs.Stored.{no_record, record_at, table_in, Indexed}
-use Rattle.stored_table.proofs.IndexLaws.{record-at, length-places, few-places, numbered}
+use Rattle.stored_table.proofs.IndexLaws.{record-at, length-places, few_places, numbered}
 use Rattle.key_table.specs.Views.{spare_record, record_value, table_value}
 use Rattle.key_table.specs.Forms.{ValueAt}
 use Rattle.key_table.specs.declared.records.Record.{Record}
@@ -66,7 +66,7 @@ module _ {table places : List ℕ} (x : Indexed table places) {i : ℕ} (h : i <
         size = rw length-set p.size;
         are =
             rw (e, (record-at x i h).is, add-one, take-suc (table_in table) i no_record (numbered x i h), p.are)
-            (rw n at (value-next t (get_or (table_in table) i no_record) (omega (arith, few-places x))));
+            (rw n at (value-next t (get_or (table_in table) i no_record) (omega (arith, few_places x))));
       }
 
 -- all records

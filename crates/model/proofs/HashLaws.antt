@@ -23,9 +23,9 @@ use Rattle.model.proofs.Sha256Laws.{sha256-length, sha256-bytes}
 -- ---- the mixed token
 
 module _ (s : List ℕ) where
-  pub mixed-length : length (mixed_in s) ≡ 32
+  pub mixed_length : length (mixed_in s) ≡ 32
   unfolding mixed_in
-  mixed-length = sha256-length _
+  mixed_length = sha256-length _
 
   pub mixed-bytes : Bytes (mixed_in s)
   unfolding mixed_in
@@ -33,7 +33,7 @@ module _ (s : List ℕ) where
 
   -- it is one that a record can have
   pub mixed-fits : fits mixed_token (mixed_in s) ≡ true
-  mixed-fits = size_fits mixed_token (mixed_in s) (omega (arith, mixed-length)) (omega (arith, mixed-length)) refl
+  mixed-fits = size_fits mixed_token (mixed_in s) (omega (arith, mixed_length)) (omega (arith, mixed_length)) refl
 
   -- "A missing AppID adds no bytes"
   pub no_app_id : field_in app_id s ≡ [] → mixed_in s ≡ sha256 (field_in access_token s)

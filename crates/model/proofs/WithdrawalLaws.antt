@@ -19,7 +19,7 @@ use Rattle.model.specs.Traces.{withdraws, Form, Step, is_of, next, final}
 use Rattle.model.proofs.Basics.{split, up-to, clash, impossible, and_left, and_right, both, or_left, or_right, eq_bytes-eq, eq_bytes-refl, all-select, select-append, judged}
 use Rattle.model.proofs.LayoutLaws.{size_fits, fits-least, fits-most}
 use Rattle.model.proofs.StoredForm.{decode-encode, encode-decode}
-use Rattle.model.proofs.HashLaws.{mixed-length, owned}
+use Rattle.model.proofs.HashLaws.{mixed_length, owned}
 use Rattle.model.proofs.Rules.{tests}
 use Rattle.model.proofs.LentLaws.{lent_rules}
 use Rattle.model.proofs.Kept.{given-ok, Accepted, accepted, kept, next_kept}
@@ -356,7 +356,7 @@ module _ (c : Call) (g : Given) (t : Table) (e : Effect) (d : List ℕ)
       added c t e d (rw (is, u) at its.done) drafts
 
   named : (o : Option ℕ) → Named (taking_back c o)
-  named o = record { mixed = mixed-length c.command; key-id = (lent_rules register c.lent (rw is at its.lent_ok)).key-id }
+  named o = record { mixed = mixed_length c.command; key-id = (lent_rules register c.lent (rw is at its.lent_ok)).key-id }
 
   -- "Directly after .. it gives the former table exactly", in whichever form it is handed the table, "unless refused over its table output"
   pub former_table : (o : Option ℕ) (h : Given) → table_of h ≡ some e.left → 6912 ≤ get_or o 6912 → withdraw (taking_back c o) h ≡ gave t

@@ -19,7 +19,7 @@ use Rattle.tlv.specs.Writing.{Wrote}
 use Rattle.tlv.proofs.WriteLaws.{then, then_run, then_value, same, wrote_none}
 use Rattle.stored_table.specs.Stored.{no_record, name_size, record_at, Stands, Indexed, table_in}
 use Rattle.stored_table.specs.Chosen.{ChosenOf, records_at}
-use Rattle.stored_table.proofs.IndexLaws.{RecordIs, name-length, key_length, record-at, length-places, few-places}
+use Rattle.stored_table.proofs.IndexLaws.{RecordIs, name-length, key_length, record-at, length-places, few_places}
 use Rattle.replies.specs.Writes.{pairs_of}
 use Rattle.replies.specs.Replies.{pairs_size}
 
@@ -127,7 +127,7 @@ module _ {table places : List ℕ} (x : Indexed table places) {named : List ℕ}
   pub named_at : (i : ℕ) → i < length named → Named (get_or named i 0)
   named_at i h =
       let w : get_or named i 0 < length places = omega (arith, o.each i h, length-places x) in
-      record { within = w; near = omega (arith, w, few-places x); is = record-at x _ w }
+      record { within = w; near = omega (arith, w, few_places x); is = record-at x _ w }
 
   pub named_item : (j i : ℕ) → i < length named → j ≡ get_or named i j → Named j
   named_item j i h e = rw (e ∙ get_or_default_zero named i j h) (named_at i h)

@@ -1,6 +1,6 @@
-#![tactic(auto, using(crate::proofs::IndexLaws::counted, crate::proofs::IndexLaws::has_place, crate::proofs::IndexLaws::stands_at, crate::proofs::IndexLaws::stored_at, crate::proofs::IndexLaws::sized_at))]
+#![tactic(auto, using(crate::proofs::IndexLaws::counted, crate::proofs::IndexLaws::few_places, crate::proofs::IndexLaws::has_place, crate::proofs::IndexLaws::stands_at, crate::proofs::IndexLaws::stored_at, crate::proofs::IndexLaws::sized_at, crate::proofs::IndexLaws::key_sized, crate::proofs::IndexLaws::mixed_sized, crate::proofs::IndexLaws::name_short))]
 
-ghost use Rattle.std.specs.Prelude.{◌≡◌, ◌<◌, true, length, get_or, MatchOption};
+ghost use Rattle.std.specs.Prelude.{◌≡◌, ◌≤◌, ◌<◌, true, length, get_or, MatchOption};
 ghost use Rattle.std.proofs.Math.Option.{none, some};
 ghost use Rattle.model.specs.Records.{table_ok, decode};
 ghost use Rattle.stored_table.specs.Stored.{no_record};
@@ -49,7 +49,7 @@ impl<'a> StoredTable<'a> {
 
     // How many records it has.
     pub fn len(&self) -> usize
-        ensures { result ≡ length self.now }
+        ensures { (result ≡ length self.now) × (result ≤ 32) }
     {
         self.places.len()
     }
@@ -65,7 +65,7 @@ impl<'a> StoredTable<'a> {
     // The name of a record.
     pub fn name_of(&self, i: usize) -> &[u8]
         requires { i < length self.now }
-        ensures { result.now ≡ (get_or self.now i no_record).name }
+        ensures { (result.now ≡ (get_or self.now i no_record).name) × (length result.now ≤ 128) }
     {
         name_at(self.bytes, self.places[i])
     }
@@ -73,7 +73,7 @@ impl<'a> StoredTable<'a> {
     // The KeyID of a record.
     pub fn key_of(&self, i: usize) -> &[u8]
         requires { i < length self.now }
-        ensures { result.now ≡ (get_or self.now i no_record).key_id }
+        ensures { (result.now ≡ (get_or self.now i no_record).key_id) × (length result.now ≡ 32) }
     {
         key_at(self.bytes, self.places[i])
     }
@@ -81,7 +81,7 @@ impl<'a> StoredTable<'a> {
     // The mixed token of a record.
     pub fn mixed_of(&self, i: usize) -> &[u8]
         requires { i < length self.now }
-        ensures { result.now ≡ (get_or self.now i no_record).mixed }
+        ensures { (result.now ≡ (get_or self.now i no_record).mixed) × (length result.now ≡ 32) }
     {
         mixed_at(self.bytes, self.places[i])
     }

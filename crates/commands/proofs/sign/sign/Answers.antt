@@ -6,7 +6,7 @@ use Rattle.std.proofs.lemmas.Result.{err_from_is_err_and}
 use Rattle.model.specs.Records.{Record}
 use Rattle.model.specs.Commands.{has_content}
 use Rattle.stored_table.specs.Stored.{table_in}
-use Rattle.stored_table.proofs.IndexLaws.{record-at, few-places}
+use Rattle.stored_table.proofs.IndexLaws.{record-at, few_places}
 use Rattle.commands.proofs.JudgeLaws.{placed_empty}
 use Rattle.commands.proofs.SignLaws.{Chose, chose, sign_fails, sign-placed, none_chosen, one-chosen, several_chosen, one_placed}
 use Rattle.commands.proofs.sign.sign.Goals as goal
@@ -29,7 +29,7 @@ returns-in-0 c = λ k. none_chosen (found (goal.at.returns-in-0 c).After-choose-
 
 pub offset_bounds-places-i : goal.offset_bounds-places-i
 offset_bounds-places-i c =
-    omega (arith, one_placed (found (goal.at.offset_bounds-places-i c).After-choose-named) c.in-1.is c.requires.indexed, few-places c.requires.indexed)
+    omega (arith, one_placed (found (goal.at.offset_bounds-places-i c).After-choose-named) c.in-1.is c.requires.indexed, few_places c.requires.indexed)
 
 pub bounds-places-i : goal.bounds-places-i
 bounds-places-i c = one_placed (found (goal.at.bounds-places-i c).After-choose-named) c.in-1.is c.requires.indexed

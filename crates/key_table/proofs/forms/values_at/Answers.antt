@@ -1,10 +1,10 @@
 use native.Mathlib.Omega.{arith}
-use Rattle.stored_table.proofs.IndexLaws.{few-places}
+use Rattle.stored_table.proofs.IndexLaws.{few_places}
 use Rattle.key_table.proofs.LoadLaws.{values_none, stands_at, values-more, values-all}
 use Rattle.key_table.proofs.forms.values_at.Goals as goal
 
 pub loop-i-init : goal.loop-i-init
-loop-i-init c = (few-places c.requires, values_none _ c.no_table-t.ensures)
+loop-i-init c = (few_places c.requires, values_none _ c.no_table-t.ensures)
 
 pub value_at-requires : goal.value_at-requires
 value_at-requires c = stands_at c.requires c.loop-i-test.true

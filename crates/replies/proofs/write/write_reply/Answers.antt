@@ -6,7 +6,7 @@ use lib.ListN.{get_or, length}
 use Rattle.tlv.proofs.HeadLaws.{length_part}
 use Rattle.tlv.proofs.WriteLaws.{same}
 use Rattle.stored_table.specs.Stored.{no_record, table_in}
-use Rattle.stored_table.proofs.IndexLaws.{RecordIs, record-at, length-places, few-places, key_length}
+use Rattle.stored_table.proofs.IndexLaws.{RecordIs, record-at, length-places, few_places, key_length}
 use Rattle.replies.proofs.ReplyLaws.{info-is, register-draft, size_by, ready_by, wrote_by}
 use Rattle.replies.proofs.write.write_reply.Goals as goal
 use Rattle.replies.proofs.write.write_reply.Goals.{After-part_of-in-Signed}
@@ -69,7 +69,7 @@ returns-in-Signed c =
     rw (← c.lent.view_is) (wrote_by _ e _ _ _ _ (rw (hash, shown, c.key_of.ensures, record-is) at c.put_signed_data.ensures))
 
 pub offset_bounds-places-record : goal.offset_bounds-places-record
-offset_bounds-places-record c = omega (arith, below (goal.at.offset_bounds-places-record c).After-part_of-in-Signed, few-places c.requires.indexed)
+offset_bounds-places-record c = omega (arith, below (goal.at.offset_bounds-places-record c).After-part_of-in-Signed, few_places c.requires.indexed)
 
 pub put_signed_data-requires : goal.put_signed_data-requires
 put_signed_data-requires c =

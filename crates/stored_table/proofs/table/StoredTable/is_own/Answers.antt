@@ -3,4 +3,4 @@ use Rattle.stored_table.proofs.LookupLaws.{own_first}
 use Rattle.stored_table.proofs.table.StoredTable.is_own.Goals as goal
 
 pub returns : goal.returns
-returns c = rw c.len.ensures (own_first _ _ _ c.requires c.next_going.ensures)
+returns c = rw c.len.ensures.0 (own_first _ _ _ c.requires c.next_going.ensures)
