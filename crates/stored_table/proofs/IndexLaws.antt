@@ -325,8 +325,11 @@ module _ {table places : List ℕ} (x : Indexed table places) where
     pub mixed_sized : {m : List ℕ} → m ≡ (record_at table (get_or places i 0)).mixed → length m ≡ 32
     mixed_sized = mixed_length table (get_or places i 0) stands_at
 
+    pub short_at : name_size table (get_or places i 0) ≤ 128
+    short_at = omega (arith, (record-at i has_place).size, (obeys_rules (table_in table) x.ok).each i (numbered i has_place))
+
     pub name_short : {n : List ℕ} → n ≡ (record_at table (get_or places i 0)).name → length n ≤ 128
-    name_short e = rw (e, (record-at i has_place).is) ((obeys_rules (table_in table) x.ok).each i (numbered i has_place)).name-most
+    name_short e = omega (arith, name-length table (get_or places i 0) stands_at e, short_at)
 
     pub sized_at : name_size table (get_or places i 0) ≡ length (get_or t i no_record).name
     sized_at = rw (← v) (record-at i has_place).size

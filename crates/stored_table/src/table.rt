@@ -1,4 +1,4 @@
-#![tactic(auto, using(crate::proofs::IndexLaws::counted, crate::proofs::IndexLaws::few_places, crate::proofs::IndexLaws::has_place, crate::proofs::IndexLaws::stands_at, crate::proofs::IndexLaws::stored_at, crate::proofs::IndexLaws::sized_at, crate::proofs::IndexLaws::key_sized, crate::proofs::IndexLaws::mixed_sized, crate::proofs::IndexLaws::name_short))]
+#![tactic(auto, using(crate::proofs::IndexLaws::counted, crate::proofs::IndexLaws::few_places, crate::proofs::IndexLaws::has_place, crate::proofs::IndexLaws::stands_at, crate::proofs::IndexLaws::stored_at, crate::proofs::IndexLaws::sized_at, crate::proofs::IndexLaws::short_at, crate::proofs::IndexLaws::key_sized, crate::proofs::IndexLaws::mixed_sized, crate::proofs::IndexLaws::name_short))]
 
 ghost use Rattle.std.specs.Prelude.{◌≡◌, ◌≤◌, ◌<◌, true, length, get_or, MatchOption};
 ghost use Rattle.std.proofs.Math.Option.{none, some};
@@ -57,7 +57,7 @@ impl<'a> StoredTable<'a> {
     // How long the name of a record is.
     pub fn name_len(&self, i: usize) -> usize
         requires { i < length self.now }
-        ensures { result ≡ length (get_or self.now i no_record).name }
+        ensures { (result ≡ length (get_or self.now i no_record).name) × (result ≤ 128) }
     {
         name_len_at(self.bytes, self.places[i])
     }

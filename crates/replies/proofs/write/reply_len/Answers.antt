@@ -2,21 +2,20 @@
 use mathlib.Core.Path.{◌≡◌, sym}
 use mathlib.Core.Bool.{cond}
 use native.Mathlib.Omega.{arith}
-use Rattle.replies.proofs.PairLaws.{named-most}
 use Rattle.replies.proofs.ReplyLaws.{size_by}
 use Rattle.replies.proofs.write.reply_len.Goals as goal
 use Rattle.replies.proofs.write.reply_len.Goals.{After-len, After-len-in-Signed, then-content, else-content}
 
 pub overflow_add-result : goal.overflow_add-result
 overflow_add-result c =
-    omega (arith, c.pairs_len.ensures, named-most c.requires.indexed c.requires.start_le_end.1.named-there)
+    omega (arith, c.pairs_len.ensures.1)
 
 -- what the transaction hash takes
 hash_is : (c : After-len-in-Signed) → c.if-content.hash ≡ cond c.in-Signed.content 36 4
 hash_is c = elim c.if-content.branch [ then-content w ↦ rw w.if-content.true w.hash-is | else-content w ↦ rw w.if-content.false w.hash-is ]
 
 pub returns-in-Names : goal.returns-in-Names
-returns-in-Names c = rw c.pairs_len.ensures (sym (size_by _ c.in-Names.is _ _ _ _))
+returns-in-Names c = rw c.pairs_len.ensures.0 (sym (size_by _ c.in-Names.is _ _ _ _))
 
 pub returns-in-Registration : goal.returns-in-Registration
 returns-in-Registration c = rw c.len.ensures (sym (size_by _ c.in-Registration.is _ _ _ _))
