@@ -3,7 +3,7 @@
 use mathlib.Core.Path.{◌≡◌, refl, sym, ap, ◌∙◌}
 use mathlib.Core.Bool.{Bool, true, false}
 use mathlib.Core.List.{List, [], ◌∷◌}
-use Prim.Native.Nat.{ℕ, ◌+◌, ◌≤◌, ◌<◌}
+use Prim.Native.Nat.{ℕ, ◌+◌, ◌≤◌}
 use native.Mathlib.Nat.{pos_of_ne-zero}
 use native.Mathlib.Numerals.{add-one}
 use native.Mathlib.Omega.{arith}
@@ -21,11 +21,10 @@ use Rattle.params.specs.Lent.{lent_of}
 use Rattle.params.specs.Parse.{HandlesPlaced, ParamsPlaced, ParamsRead, HandlesRead}
 use Rattle.params.specs.declared.lent.Numbers.{Numbers}
 use Rattle.params.specs.declared.parse.Params.{Params}
-use Rattle.stored_table.specs.Stored.{Indexed, no_record, table_in}
+use Rattle.stored_table.specs.Stored.{no_record}
 use Rattle.stored_table.specs.Changes.{CanCount}
 use Rattle.stored_table.specs.Chosen.{is_chosen, positions, ChosenAre, ChosenOf, records_at}
 use Rattle.stored_table.specs.declared.left.Change.TheVariants.{Keep, SetCount}
-use Rattle.stored_table.proofs.IndexLaws.{length-places}
 use Rattle.stored_table.proofs.LookupLaws.{chosen_is, chosen-records, chosen_of}
 use Rattle.replies.specs.Replies.{answer_of, Quoted}
 use Rattle.replies.specs.declared.reply.Shape.TheVariants.{Status, Names, Signed}
@@ -139,11 +138,6 @@ chosen_none : (s : List ℕ) (l : Lent) (rs : records.Table) → length rs ≡ 0
 unfolding sign_chosen
 chosen_none s l [] h = refl
 chosen_none s l (r ∷ rs) h = absurd (omega arith)
-
--- the only one has a place
-pub one_placed : {s : List ℕ} {n : Numbers} {m table places : List ℕ} {p : Params} {cs : List ℕ} {k : ℕ}
-    → Chose s n m (table_in table) p cs k → k ≡ 1 → Indexed table places → get_or cs 0 0 < length places
-one_placed w e x = omega (arith, (w.mine e).there, length-places x)
 
 module _ {s : List ℕ} {n : Numbers} {m key : List ℕ} {t : records.Table} {p : Params} {cs : List ℕ} {k : ℕ} (w : Chose s n m t p cs k) where
   pub none_chosen : k ≡ 0 → Decides sign s n m key t p cs (decision (Status 0x02) 0 Keep)
