@@ -4,7 +4,7 @@ use mathlib.Core.Path.{◌≡◌, sym, ap, ◌∙◌}
 use mathlib.Core.Bool.{Bool, true, false}
 use mathlib.Core.List.{List}
 use mathlib.Core.Logic.{◌⊎◌, inl, inr}
-use mathlib.Core.Option.{Option, none, some}
+use mathlib.Core.Option.{Option, some}
 use Prim.Native.Nat.{ℕ, ◌≤◌, ◌<◌}
 use native.Mathlib.Omega.{arith}
 use lib.Dec.{ltb}
@@ -25,8 +25,6 @@ use Rattle.params.specs.Lent.{lent_of, call}
 use Rattle.params.specs.Parse.{ParamsRead}
 use Rattle.params.specs.declared.lent.Numbers.{Numbers}
 use Rattle.params.specs.declared.parse.Params.{Params}
-use Rattle.stored_table.specs.Stored.{table_in}
-use Rattle.stored_table.specs.Index.{IndexOf}
 use Rattle.stored_table.specs.Changes.{change_of}
 use Rattle.replies.specs.Replies as replies
 use Rattle.replies.specs.Replies.{answer_of, challenge_len, reply_size, Ready, Short}
@@ -64,14 +62,10 @@ long_enough n m e h =
     let k = sym e ∙ h in
     (ltb-false _ _ (or_left _ _ k), ltb-false _ _ (or_right (ltb n least_output) _ k))
 
--- a stored table whose index was found, or not
-pub read_is : {s places : List ℕ} {n : ℕ} → IndexOf s places n → table_of (stored s) ≡ some (table_in s)
+-- what is read of a stretch, a table or none, is the model's
+pub read_is : (s : List ℕ) {o : Option Table} → decode s ≡ o → table_of (stored s) ≡ o
 unfolding table_of
-read_is x = x.view
-
-pub not_read : (s : List ℕ) → decode s ≡ none → table_of (stored s) ≡ none
-unfolding table_of
-not_read s e = e
+read_is s e = e
 
 -- ---- what is asked where a command is performed
 

@@ -25,17 +25,14 @@ decide-decision-requires c =
     record {
       params_read = c.params_of-params.ensures;
       mixed_len = λ e. (search rules, register-lent _ (rw (← c.lent.view_is) at c.requires.lent_value) e);
-      indexed = (c.requires.indexed, refl);
+      chosen_len = refl;
     }
 
 pub reply_len-response_len-requires : goal.reply_len-response_len-requires
 reply_len-response_len-requires c =
     let k = c.decide-decision.ensures in
     let lent = rw (← c.lent.view_is) at c.requires.lent_value in
-    record {
-      start_le_end = (challenge-ordered c.params_of-params.ensures.0, reply-short k _ _ _ _ lent);
-      indexed = c.requires.indexed;
-    }
+    (challenge-ordered c.params_of-params.ensures.0, reply-short k _ _ _ _ lent)
 
 pub write_reply-requires : goal.write_reply-requires
 write_reply-requires c =
@@ -43,17 +40,15 @@ write_reply-requires c =
     let k = c.decide-decision.ensures in
     let e = c.reply_len-response_len.ensures in
     let lent = rw (← c.lent.view_is) at s.lent_value in
-    let fits = reply-fits k _ _ _ _ lent _ _ s.indexed.ok e s.room.0 in
+    let fits = reply-fits k _ _ _ _ lent _ _ c.obeys_rules.ensures e s.room.0 in
     record {
       ready = rw (← c.lent.view_is) (reply-ready k _ _ _ _ lent);
-      indexed = s.indexed;
       len_value = (rw (← c.lent.view_is) e, fits);
     }
 
 pub put_left-table_len-requires : goal.put_left-table_len-requires
 put_left-table_len-requires c =
     record {
-      indexed = c.requires.indexed;
       can = c.decide-decision.ensures.can;
       max_stored_in_bounds = c.requires.room.1;
     }
