@@ -13,7 +13,7 @@ use borrow.Author.Tests.{ltb-true, ltb-false}
 use Rattle.std.specs.Prelude.{Ok, Err}
 use Rattle.model.specs.Tlv as tlv
 use Rattle.model.specs.Tlv.{broken}
-use Rattle.model.specs.Records.{Table, max_stored, encode, decode, table_ok}
+use Rattle.model.specs.Records.{Table, max_stored, encode, decode}
 use Rattle.model.specs.Commands.{Lent, least_output, short_output, stored, table_of, lent_ok, Result, refused, gave, Effect, apply, perform, Answer, bytes_of, Outputs, outputs}
 use Rattle.model.proofs.Basics.{split, either, or_left, or_right}
 use Rattle.model.proofs.LentLaws.{lent_rules}
@@ -27,9 +27,9 @@ use Rattle.params.specs.declared.lent.Numbers.{Numbers}
 use Rattle.params.specs.declared.parse.Params.{Params}
 use Rattle.stored_table.specs.Changes.{change_of}
 use Rattle.replies.specs.Replies as replies
-use Rattle.replies.specs.Replies.{answer_of, challenge_len, reply_size, Ready, Short}
+use Rattle.replies.specs.Replies.{answer_of, challenge_len, Ready, Short}
 use Rattle.replies.specs.declared.reply.Shape.{Shape}
-use Rattle.replies.proofs.ReplyLaws.{draft-is, ready, short, size-most}
+use Rattle.replies.proofs.ReplyLaws.{draft-is, ready, short}
 use Rattle.commands.specs.Callers.{mixed_for}
 use Rattle.commands.specs.Decisions.{named_by, Decides}
 use Rattle.commands.proofs.CallerLaws.{performed_for_caller}
@@ -97,11 +97,6 @@ module _ {k : tlv.Kind} {s : List ℕ} {n : Numbers} {m key : List ℕ} {t : Tab
 
     pub reply-short : Short (challenge_len c) (length public_key) (length nonce) t (named_by chosen d) d.shape
     reply-short = short reply-ready
-
-    -- an output that is not too short takes it
-    pub reply-fits : (len room : ℕ) → table_ok t ≡ true
-        → len ≡ reply_size (challenge_len c) (length public_key) (length nonce) t (named_by chosen d) d.shape → least_output ≤ room → len ≤ room
-    reply-fits len room ok e r = omega (arith, size-most reply-ready ok)
 
   -- ---- what a call gives
 

@@ -43,7 +43,6 @@ fn perform(
         table.now))
         (outputs_of response.old table_out.old) }
 {
-    table.obeys_rules();
     let mut handles = [0usize; MOST_HANDLES];
     let params = params_of(command, kind, &mut handles);
     let mixed = mixed_token(kind, command, params, lent.numbers.verdict);

@@ -74,7 +74,6 @@ pub fn sign(
         chosen.new (decided result) }
 {
     judge_sign(params.broken, numbers.verdict)?;
-    table.obeys_rules();
     let given = &handles[..params.handle_count];
     let named = table.choose(mixed, command, given, chosen);
     match named {

@@ -1,6 +1,6 @@
 -- The names and KeyIDs of some records as they are written: one pair, and one pair after another; and how many bytes they take.
 -- Assumes nothing.
-use mathlib.Core.Path.{◌≡◌, refl, ap, ◌∙◌}
+use mathlib.Core.Path.{◌≡◌, refl, ap}
 use mathlib.Core.List.{List, [], ◌∷◌, ◌++◌, map-append, append_assoc}
 use mathlib.Core.Bool.{true}
 use Prim.Native.Nat.{ℕ, zero, suc, ◌+◌, ◌*◌, ◌≤◌, ◌<◌}
@@ -9,7 +9,6 @@ use native.Mathlib.Omega.{arith}
 use lib.ListN.{length, get_or, take, length-append}
 use lib.Seq.{take-suc}
 use Rattle.std.specs.List.{sum_by}
-use Rattle.std.proofs.lemmas.Grind.{get_or_default_zero}
 use Rattle.std.proofs.lemmas.List.Sums.{sum_by-cons}
 use Rattle.model.specs.Tlv.{le, tlv, bytes, header, pair_tag}
 use Rattle.model.specs.Layouts.{fill, write}
@@ -18,7 +17,7 @@ use Rattle.model.proofs.Rules.{obeys_rules}
 use Rattle.tlv.specs.Writing.{Wrote}
 use Rattle.tlv.proofs.WriteLaws.{then, then_run, then_value, same, wrote_none}
 use Rattle.stored_table.specs.Stored.{no_record}
-use Rattle.stored_table.specs.Chosen.{ChosenOf, records_at}
+use Rattle.stored_table.specs.Chosen.{records_at}
 use Rattle.replies.specs.Writes.{pairs_of}
 use Rattle.replies.specs.Replies.{pairs_size}
 
@@ -105,23 +104,12 @@ module _ (t : model.Table) (ok : model.table_ok t ≡ true) where
 
 -- ---- the records that are named
 
--- how many bytes the pair of the record of a number takes
-abbrev pub pair_size : model.Table → ℕ → ℕ
-pair_size t j = 44 + length (get_or t j no_record).name
-
-pub pairs-sum : (t : model.Table) (is : List ℕ) → sum_by (pair_size t) is ≡ pairs_size (records_at t is)
+pub pairs-sum : (t : model.Table) (is : List ℕ)
+    → pairs_size (records_at t is) ≡ 44 * length is + sum_by (λ j. length (get_or t j no_record).name) is
 pairs-sum t [] = refl
-pairs-sum t (j ∷ is) = omega (arith, pairs-sum t is, sum_by-cons (pair_size t) j is)
+pairs-sum t (j ∷ is) = omega (arith, pairs-sum t is, sum_by-cons (λ j. length (get_or t j no_record).name) j is)
 
-module _ {t : model.Table} {named : List ℕ} (o : ChosenOf t named) where
-  pub named-most : model.table_ok t ≡ true → pairs_size (records_at t named) ≤ 1376
-  named-most ok = omega (arith, (sized t ok named o.each).most, o.few)
-
-  -- one of them has this number
-  pub named_item : (j i : ℕ) → i < length named → j ≡ get_or named i j → j < length t
-  named_item j i h e = rw (e ∙ get_or_default_zero named i j h) (o.each i h)
-
-  -- the pair of the next of them has room beside those before it
-  pub next-room : (i : ℕ) → i < length named
-      → pairs_size (records_at t (take i named)) + (44 + length (get_or t (get_or named i 0) no_record).name) ≤ pairs_size (records_at t named)
-  next-room i h = omega (arith, size-more t named i h, size-part t named (i + 1) (omega (arith, h)))
+-- the pair of the next of them has room beside those before it
+pub next-room : (t : model.Table) (named : List ℕ) (i : ℕ) → i < length named
+    → pairs_size (records_at t (take i named)) + (44 + length (get_or t (get_or named i 0) no_record).name) ≤ pairs_size (records_at t named)
+next-room t named i h = omega (arith, size-more t named i h, size-part t named (i + 1) (omega (arith, h)))

@@ -156,6 +156,9 @@ module _ (named : List ℕ) {y x : Shape} (e : y ≡ x) where
   pub ready_by : {s : List ℕ} {l : Lent} {t : Table} {c : Params} → Ready s l t c named y → ReadyShape s l t c x
   ready_by h = rw e at h.ready_shape
 
+  pub short_by : {c p n : ℕ} {t : Table} → Short c p n t named y → ShortShape c p n x
+  short_by h = rw e at h.short_shape
+
   -- its bytes were written
   pub wrote_by : (k : Kind) (s : List ℕ) (l : Lent) (t : Table) {d d' : List ℕ} {len end : ℕ}
       → Wrote d 0 (bytes_of (shape_answer k s l t (records_at t named) x)) len d' end

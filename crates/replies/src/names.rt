@@ -16,21 +16,12 @@ const BESIDE_NAME: usize = 44;
 
 const INSIDE_BESIDE_NAME: usize = 40;
 
-// How many bytes the name and the KeyID of record i take.
-fn pair_len(table: &StoredTable, i: usize) -> usize
-    requires { i < length table.now }
-    ensures { result ≡ 44 + length (get_or table.now i no_record).name }
-{
-    BESIDE_NAME + table.name_len(i)
-}
-
 // How many bytes the names and KeyIDs of the records with these numbers take.
 pub fn pairs_len(table: &StoredTable, named: &[usize]) -> usize
     requires { ChosenOf table.now named.now }
     ensures { (result ≡ pairs_size (records_at table.now named.now)) × (result ≤ 1376) }
 {
-    table.obeys_rules();
-    named.iter().map(|&record| pair_len(table, record)).sum()
+    BESIDE_NAME * named.len() + table.names_len(named)
 }
 
 // Writes the name and the KeyID of record i.

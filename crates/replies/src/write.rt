@@ -1,5 +1,5 @@
 ghost use Rattle.std.specs.Prelude.{◌≡◌, ◌-◌, ◌≤◌, length};
-ghost use Rattle.model.specs.Commands.{bytes_of};
+ghost use Rattle.model.specs.Commands.{least_output, bytes_of};
 ghost use Rattle.tlv.specs.Writing.{Wrote};
 ghost use Rattle.params.specs.Kinds.{kind_is};
 ghost use Rattle.replies.specs.Replies.{answer_of, challenge_len, reply_size, Short, Ready};
@@ -26,7 +26,8 @@ pub fn reply_len(
 ) -> usize
     requires { (challenge.start ≤ challenge.end)
         × Short (challenge.end - challenge.start) (length public_key.now) (length nonce.now) table.now named.now shape }
-    ensures { result ≡ reply_size (challenge.end - challenge.start) (length public_key.now) (length nonce.now) table.now named.now shape }
+    ensures { (result ≡ reply_size (challenge.end - challenge.start) (length public_key.now) (length nonce.now) table.now named.now shape)
+        × (result ≤ least_output) }
 {
     match shape {
         Shape::Status(_) => 10,

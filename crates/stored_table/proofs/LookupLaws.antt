@@ -92,8 +92,8 @@ module _ (m : List ℕ) (hs : List (List ℕ)) (t : model.Table) where
     pub chosen-records : records_at t is ≡ chosen hs (own m t)
     chosen-records = ap (map (λ i. get_or t i no_record)) e ∙ positions-select (is_chosen m hs) no_record t ∙ chosen_is
 
-    pub chosen_of : table_ok t ≡ true → ChosenOf t is
-    chosen_of ok = rw e (record { few = chosen-few ok; each = λ i l. omega (arith, positions_below (is_chosen m hs) 0 t i l) })
+    pub chosen_of : length is ≤ 8 → ChosenOf t is
+    chosen_of few = record { few = few; each = rw e (λ i l. omega (arith, positions_below (is_chosen m hs) 0 t i l)) }
 
 -- ---- a walk over the records of a stored table
 

@@ -1,9 +1,11 @@
 #![tactic(auto, using(crate::proofs::IndexLaws::counted, crate::proofs::IndexLaws::few_places, crate::proofs::IndexLaws::has_place, crate::proofs::IndexLaws::stands_at, crate::proofs::IndexLaws::stored_at, crate::proofs::IndexLaws::sized_at, crate::proofs::IndexLaws::short_at, crate::proofs::IndexLaws::key_sized, crate::proofs::IndexLaws::mixed_sized, crate::proofs::IndexLaws::name_short))]
 
-ghost use Rattle.std.specs.Prelude.{◌≡◌, ◌≤◌, ◌<◌, true, length, get_or, MatchOption};
+ghost use Rattle.std.specs.Prelude.{◌≡◌, ◌≤◌, ◌<◌, length, get_or, MatchOption};
 ghost use Rattle.std.proofs.Math.Option.{none, some};
-ghost use Rattle.model.specs.Records.{table_ok, decode};
+ghost use Rattle.model.specs.Records.{decode};
+ghost use Rattle.std.specs.List.{sum_by};
 ghost use Rattle.stored_table.specs.Stored.{no_record};
+ghost use Rattle.stored_table.specs.Chosen.{ChosenOf};
 
 use crate::index::index_of;
 use crate::records::{MAX_RECORDS, count_at, key_at, mixed_at, name_at, name_len_at};
@@ -40,13 +42,6 @@ impl<'a> StoredTable<'a> {
         })
     }
 
-    // That it obeys the rules of a table: nothing is done, but contracts do not see it otherwise.
-    pub fn obeys_rules(&self)
-        ensures { table_ok self.now ≡ true }
-    {
-        let _ = &self.bytes;
-    }
-
     // How many records it has.
     pub fn len(&self) -> usize
         ensures { (result ≡ length self.now) × (result ≤ 32) }
@@ -60,6 +55,16 @@ impl<'a> StoredTable<'a> {
         ensures { (result ≡ length (get_or self.now i no_record).name) × (result ≤ 128) }
     {
         name_len_at(self.bytes, self.places[i])
+    }
+
+    // How many bytes the names of the records with these numbers take.
+    pub fn names_len(&self, named: &[usize]) -> usize
+        requires { ChosenOf self.now named.now }
+        ensures { (result ≡ sum_by (λ i. length (get_or self.now i no_record).name) named.now) × (result ≤ 1024) }
+    {
+        let table = self.bytes;
+        let places = self.places;
+        named.iter().map(|&i| name_len_at(table, places[i])).sum()
     }
 
     // The name of a record.

@@ -19,7 +19,8 @@ found : (c : After-choose-named) → let a = c.args in
     Chose a.command.now a.numbers a.mixed.now a.table.now a.params c.choose-named.new.chosen
     c.choose-named.result
 found c =
-    chose _ c.requires.params_read.0 c.in_ok-judge_sign.ensures c.requires.params_read.1 c.obeys_rules.ensures c.choose-named.ensures
+    let q = c.requires.params_read in
+    chose _ q.0 c.in_ok-judge_sign.ensures q.1 (omega (arith, c.choose-named.auto.chosen, c.requires.chosen_len)) c.choose-named.ensures
 
 pub returns-in-0 : goal.returns-in-0
 returns-in-0 c = λ k. none_chosen (found (goal.at.returns-in-0 c).After-choose-named) c.in-0.is

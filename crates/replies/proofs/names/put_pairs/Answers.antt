@@ -8,7 +8,7 @@ loop-record-init c = pairs_none _ c.args.at (omega (arith, c.requires.named_in_b
 
 pub put_pair-end-requires : goal.put_pair-end-requires
 put_pair-end-requires c =
-    let room = next-room c.requires.chosen_of _ c.loop-record-test.true in (
+    let room = next-room c.args.table.now c.args.named.now _ c.loop-record-test.true in (
       c.requires.chosen_of.each _ c.loop-record-test.true,
       omega (arith, c.loop-record.auto.out, c.loop-record.invariant, c.requires.named_in_bounds, room),
     )
