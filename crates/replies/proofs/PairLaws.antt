@@ -80,27 +80,20 @@ size-part t is zero h = omega arith
 size-part t [] (suc i) h = omega arith
 size-part t (j ∷ is) (suc i) h = omega (arith, size-part t is i (omega arith))
 
--- by the rules a name has at most 128 bytes and a KeyID 32
-pub record Sized (n : ℕ) (rs : model.Table) : Type 0 where
-  pub most : pairs_size rs ≤ 172 * n
-  pub is : length (pairs_of rs) ≡ pairs_size rs
-
 size-one : (r : model.Record) (rs : model.Table) → length r.key_id ≡ 32
     → length (pairs_of (r ∷ rs)) ≡ 44 + length r.name + length (pairs_of rs)
 unfolding pairs_of write fill bytes le
 size-one r rs h = simp length-append (omega arith)
 
-module _ (t : model.Table) (ok : model.table_ok t ≡ true) where
-  pub sized : (is : List ℕ) → ((i : ℕ) → i < length is → get_or is i 0 < length t) → Sized (length is) (records_at t is)
-  unfolding pairs_of write fill bytes
-  sized [] each = record { most = omega arith; is = refl }
-  sized (j ∷ is) each =
-      let r = (obeys_rules t ok).each j (each 0 (omega arith)) in
-      let rest = sized is (λ i h. each (suc i) (omega arith)) in
-      record {
-        most = omega (arith, r.name-most, rest.most);
-        is = omega (arith, size-one (get_or t j no_record) (records_at t is) r.key-id, rest.is);
-      }
+-- by the rules a KeyID has 32 bytes
+pub sized : (t : model.Table) → model.table_ok t ≡ true → (is : List ℕ) → ((i : ℕ) → i < length is → get_or is i 0 < length t)
+    → length (pairs_of (records_at t is)) ≡ pairs_size (records_at t is)
+unfolding pairs_of write fill bytes
+sized t ok [] each = refl
+sized t ok (j ∷ is) each =
+    let r = (obeys_rules t ok).each j (each 0 (omega arith)) in
+    let rest = sized t ok is (λ i h. each (suc i) (omega arith)) in
+    omega (arith, size-one (get_or t j no_record) (records_at t is) r.key-id, rest)
 
 -- ---- the records that are named
 
