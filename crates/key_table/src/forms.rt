@@ -67,7 +67,7 @@ pub fn store(t: Table, out: &mut [u8]) -> Result<usize, Refusal>
 }
 
 // Record i of a stored table, by value.
-fn value_of(table: &StoredTable, i: usize) -> Record
+fn value_at(table: &StoredTable, i: usize) -> Record
     requires { i < length table.now }
     ensures { result ≡ record_value (get_or table.now i no_record) }
 {
@@ -77,13 +77,13 @@ fn value_of(table: &StoredTable, i: usize) -> Record
 }
 
 // All records of a stored table, by value.
-fn values_of(table: &StoredTable) -> Table
+fn values_at(table: &StoredTable) -> Table
     ensures { result ≡ table_value table.now }
 {
     let mut t = no_table();
     let len = table.len();
     for i in 0..len {
-        t.records[i] = value_of(table, i);
+        t.records[i] = value_at(table, i);
     }
     t.len = len;
     t
@@ -96,6 +96,6 @@ pub fn load(stored: &[u8]) -> Result<Table, Refusal>
     let mut places = [0usize; MAX_RECORDS];
     match StoredTable::read(stored, &mut places) {
         None => Err(Refusal::BrokenTable),
-        Some(table) => Ok(values_of(&table)),
+        Some(table) => Ok(values_at(&table)),
     }
 }

@@ -8,4 +8,4 @@ returns-in-None c = rw c.in-None.ensures
 
 pub returns-in-Some : goal.returns-in-Some
 unfolding loading
-returns-in-Some c = rw (c.in-Some.ensures, c.values_of.ensures)
+returns-in-Some c = rw (c.in-Some.ensures, c.values_at.ensures)

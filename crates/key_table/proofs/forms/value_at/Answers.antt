@@ -1,5 +1,5 @@
 -- The record of the four fields as they are stored.
-use Rattle.key_table.proofs.forms.value_of.Goals as goal
+use Rattle.key_table.proofs.forms.value_at.Goals as goal
 
 pub returns : goal.returns
 returns c =
