@@ -4,7 +4,7 @@ use mathlib.Core.Path.{◌≡◌, sym, ap, ◌∙◌}
 use mathlib.Core.Bool.{Bool, true, false}
 use mathlib.Core.List.{List}
 use mathlib.Core.Logic.{◌⊎◌, inl, inr}
-use mathlib.Core.Option.{Option, none, some}
+use mathlib.Core.Option.{Option, some}
 use Prim.Native.Nat.{ℕ, ◌≤◌, ◌<◌}
 use native.Mathlib.Omega.{arith}
 use lib.Dec.{ltb}
@@ -13,7 +13,7 @@ use borrow.Author.Tests.{ltb-true, ltb-false}
 use Rattle.std.specs.Prelude.{Ok, Err}
 use Rattle.model.specs.Tlv as tlv
 use Rattle.model.specs.Tlv.{broken}
-use Rattle.model.specs.Records.{Table, max_stored, encode, decode, table_ok}
+use Rattle.model.specs.Records.{Table, max_stored, encode, decode}
 use Rattle.model.specs.Commands.{Lent, least_output, short_output, stored, table_of, lent_ok, Result, refused, gave, Effect, apply, perform, Answer, bytes_of, Outputs, outputs}
 use Rattle.model.proofs.Basics.{split, either, or_left, or_right}
 use Rattle.model.proofs.LentLaws.{lent_rules}
@@ -25,13 +25,11 @@ use Rattle.params.specs.Lent.{lent_of, call}
 use Rattle.params.specs.Parse.{ParamsRead}
 use Rattle.params.specs.declared.lent.Numbers.{Numbers}
 use Rattle.params.specs.declared.parse.Params.{Params}
-use Rattle.stored_table.specs.Stored.{table_in}
-use Rattle.stored_table.specs.Index.{IndexOf}
 use Rattle.stored_table.specs.Changes.{change_of}
 use Rattle.replies.specs.Replies as replies
-use Rattle.replies.specs.Replies.{answer_of, challenge_len, reply_size, Ready, Short}
+use Rattle.replies.specs.Replies.{answer_of, challenge_len, Ready, Short}
 use Rattle.replies.specs.declared.reply.Shape.{Shape}
-use Rattle.replies.proofs.ReplyLaws.{draft-is, ready, short, size-most}
+use Rattle.replies.proofs.ReplyLaws.{draft-is, ready, short}
 use Rattle.commands.specs.Callers.{mixed_for}
 use Rattle.commands.specs.Decisions.{named_by, Decides}
 use Rattle.commands.proofs.CallerLaws.{performed_for_caller}
@@ -64,14 +62,10 @@ long_enough n m e h =
     let k = sym e ∙ h in
     (ltb-false _ _ (or_left _ _ k), ltb-false _ _ (or_right (ltb n least_output) _ k))
 
--- a stored table whose index was found, or not
-pub read_is : {s places : List ℕ} {n : ℕ} → IndexOf s places n → table_of (stored s) ≡ some (table_in s)
+-- what is read of a stretch, a table or none, is the model's
+pub read_is : (s : List ℕ) {o : Option Table} → decode s ≡ o → table_of (stored s) ≡ o
 unfolding table_of
-read_is x = x.view
-
-pub not_read : (s : List ℕ) → decode s ≡ none → table_of (stored s) ≡ none
-unfolding table_of
-not_read s e = e
+read_is s e = e
 
 -- ---- what is asked where a command is performed
 
@@ -103,11 +97,6 @@ module _ {k : tlv.Kind} {s : List ℕ} {n : Numbers} {m key : List ℕ} {t : Tab
 
     pub reply-short : Short (challenge_len c) (length public_key) (length nonce) t (named_by chosen d) d.shape
     reply-short = short reply-ready
-
-    -- an output that is not too short takes it
-    pub reply-fits : (len room : ℕ) → table_ok t ≡ true
-        → len ≡ reply_size (challenge_len c) (length public_key) (length nonce) t (named_by chosen d) d.shape → least_output ≤ room → len ≤ room
-    reply-fits len room ok e r = omega (arith, size-most reply-ready ok)
 
   -- ---- what a call gives
 

@@ -4,7 +4,6 @@ ghost use Rattle.model.specs.Records.{max_stored};
 ghost use Rattle.model.specs.Commands.{least_output, short_output, lent_ok, stored, perform, gave, outcome};
 ghost use Rattle.params.specs.Kinds.{kind_is};
 ghost use Rattle.params.specs.Lent.{call};
-ghost use Rattle.stored_table.specs.Stored.{table_in, Indexed};
 ghost use Rattle.authenticator.specs.Outcomes.{ended, ends, outputs_of};
 
 use crate::outcome::Gave;
@@ -16,9 +15,8 @@ use params::kinds::{Kind, kind_of};
 use params::lent::Lent;
 use params::parse::{MOST_HANDLES, params_of};
 use replies::write::{reply_len, write_reply};
-use stored_table::index::index_of;
-use stored_table::left::put_left;
 use stored_table::records::{MAX_OWN, MAX_RECORDS, MAX_STORED};
+use stored_table::table::StoredTable;
 
 // Whether an output is too short for what may be written into it.
 fn is_short(response: usize, table: usize) -> bool
@@ -32,19 +30,17 @@ fn perform(
     kind: Kind,
     command: &[u8],
     lent: &Lent,
-    table: &[u8],
-    places: &[usize],
+    table: &StoredTable,
     response: &mut [u8],
     table_out: &mut [u8],
 ) -> Gave
     requires lent_value { lent_ok (kind_is kind) lent.now ≡ true }
-    requires indexed { Indexed table.now places.now }
     requires room { (least_output ≤ length response.old) × (max_stored ≤ length table_out.old) }
     ensures { ended (Ok result) response.new table_out.new
         ≡ ends
         (gave (perform (kind_is kind)
         (call command.now lent.now (length response.old) (some (length table_out.old)))
-        (table_in table.now)))
+        table.now))
         (outputs_of response.old table_out.old) }
 {
     let mut handles = [0usize; MOST_HANDLES];
@@ -61,7 +57,6 @@ fn perform(
         &mixed,
         key_id,
         table,
-        places,
         &mut chosen,
     );
     let named = &chosen[..decision.named];
@@ -73,7 +68,6 @@ fn perform(
         lent.public_key,
         lent.nonce,
         table,
-        places,
     );
     write_reply(
         response,
@@ -85,10 +79,9 @@ fn perform(
         params,
         lent,
         table,
-        places,
     );
     let change = decision.change;
-    let table_len = put_left(table_out, table, places, change, command, &mixed, key_id);
+    let table_len = table.put_left(table_out, change, command, &mixed, key_id);
     Gave {
         draft: shape.is_draft(),
         response_len,
@@ -115,7 +108,7 @@ pub fn call(
         return Err(Refusal::ShortOutput);
     }
     let mut places = [0usize; MAX_RECORDS];
-    let Some(n) = index_of(table, &mut places) else {
+    let Some(table) = StoredTable::read(table, &mut places) else {
         return Err(Refusal::BrokenTable);
     };
     let Some(kind) = kind_of(command) else {
@@ -124,13 +117,5 @@ pub fn call(
     if !lent.is_ok_for(kind) {
         return Err(Refusal::WrongLent);
     }
-    Ok(perform(
-        kind,
-        command,
-        lent,
-        table,
-        &places[..n],
-        response,
-        table_out,
-    ))
+    Ok(perform(kind, command, lent, &table, response, table_out))
 }

@@ -10,10 +10,8 @@ ghost use Rattle.authenticator.specs.Withdrawing.{withdrawal};
 
 use fields::refusals::Refusal;
 use fields::{Field, fits};
-use stored_table::index::index_of;
-use stored_table::left::put_removed;
-use stored_table::lookups::is_withdrawable;
 use stored_table::records::{MAX_RECORDS, MAX_STORED};
+use stored_table::table::StoredTable;
 
 // Whether mixed token and KeyID have their lengths.
 fn are_sized(mixed: &[u8], key_id: &[u8]) -> bool
@@ -41,15 +39,14 @@ pub fn withdraw(
         return Err(Refusal::ShortOutput);
     }
     let mut places = [0usize; MAX_RECORDS];
-    let Some(n) = index_of(table, &mut places) else {
+    let Some(table) = StoredTable::read(table, &mut places) else {
         return Err(Refusal::BrokenTable);
     };
     if !are_sized(mixed, key_id) {
         return Err(Refusal::WrongLent);
     }
-    let records = &places[..n];
-    if !is_withdrawable(table, records, mixed, key_id) {
+    if !table.is_withdrawable(mixed, key_id) {
         return Err(Refusal::NotWithdrawable);
     }
-    Ok(put_removed(table_out, table, records, mixed, key_id))
+    Ok(table.put_removed(table_out, mixed, key_id))
 }

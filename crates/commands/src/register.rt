@@ -5,7 +5,6 @@ ghost use Rattle.model.specs.Records.{own, key_ids, max_records};
 ghost use Rattle.model.specs.Commands.{refused, judge, register_checks};
 ghost use Rattle.params.specs.Lent.{lent_of};
 ghost use Rattle.params.specs.Parse.{ParamsRead};
-ghost use Rattle.stored_table.specs.Stored.{Indexed, table_in};
 ghost use Rattle.commands.specs.Decisions.{Decides, judged, passed, decided};
 
 use crate::decision::{Decision, plain};
@@ -16,8 +15,8 @@ use params::parse::Params;
 use replies::reply::Shape;
 use replies::status::Status;
 use stored_table::left::Change;
-use stored_table::lookups::{is_stored, own_count};
 use stored_table::records::{MAX_OWN, MAX_RECORDS};
+use stored_table::table::StoredTable;
 use tlv::numbers::get16;
 
 // Whether an attestation type is one of the two.
@@ -35,14 +34,12 @@ fn judge_register(
     numbers: Numbers,
     mixed: &[u8],
     key_id: &[u8],
-    table: &[u8],
-    places: &[usize],
+    table: &StoredTable,
 ) -> Result<(), Status>
     requires params_read { ParamsRead register command.now params }
-    requires indexed { Indexed table.now places.now }
     ensures { judged result ≡ judge (register_checks command.now (lent_of [] numbers [] key_id.now [] [])
-        (own mixed.now (table_in table.now))
-        (among key_id.now (key_ids (table_in table.now))) (leb max_records (length (table_in table.now)))) refused passed }
+        (own mixed.now table.now)
+        (among key_id.now (key_ids table.now)) (leb max_records (length table.now))) refused passed }
 {
     if params.broken {
         return Err(Status::ParamsInvalid);
@@ -53,10 +50,10 @@ fn judge_register(
     if !is_supported(get16(command, params.attestation_type.start)) {
         return Err(Status::AttestationNotSupported);
     }
-    if is_stored(table, places, key_id) {
+    if table.is_stored(key_id) {
         return Err(Status::ErrUnknown);
     }
-    if MAX_OWN <= own_count(table, places, mixed) || MAX_RECORDS <= places.len() {
+    if MAX_OWN <= table.own_count(mixed) || MAX_RECORDS <= table.len() {
         return Err(Status::InsufficientResources);
     }
     Ok(())
@@ -69,15 +66,13 @@ pub fn register(
     numbers: Numbers,
     mixed: &[u8],
     key_id: &[u8],
-    table: &[u8],
-    places: &[usize],
+    table: &StoredTable,
 ) -> Result<Decision, Status>
     requires params_read { ParamsRead register command.now params }
     requires mixed_len { (length mixed.now ≡ 32) × (length key_id.now ≡ 32) }
-    requires indexed { Indexed table.now places.now }
-    ensures { (chosen : List ℕ) → Decides register command.now numbers mixed.now key_id.now (table_in table.now)
+    ensures { (chosen : List ℕ) → Decides register command.now numbers mixed.now key_id.now table.now
         params chosen (decided result) }
 {
-    judge_register(command, params, numbers, mixed, key_id, table, places)?;
+    judge_register(command, params, numbers, mixed, key_id, table)?;
     Ok(plain(Shape::Registration, Change::Add(params.username)))
 }

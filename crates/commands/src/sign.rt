@@ -2,7 +2,6 @@ ghost use Rattle.std.specs.Prelude.{◌≡◌, ℕ, ◌+◌, List, length};
 ghost use Rattle.model.specs.Tlv.{sign};
 ghost use Rattle.model.specs.Commands.{refused, gave, judge, user_checks, one_checks};
 ghost use Rattle.params.specs.Parse.{ParamsRead, HandlesRead};
-ghost use Rattle.stored_table.specs.Stored.{Indexed, table_in};
 ghost use Rattle.commands.specs.Decisions.{Decides, DecidesOne, judged, passed, decided};
 
 use crate::decision::{Decision, plain};
@@ -12,8 +11,7 @@ use params::parse::Params;
 use replies::reply::Shape;
 use replies::status::Status;
 use stored_table::left::Change;
-use stored_table::lookups::choose;
-use stored_table::records::count_of;
+use stored_table::table::StoredTable;
 
 // Sign's statuses before the choice: a rule broken, then the verdict.
 #[tactic(auto, unfolding(model::specs::Commands::judge))]
@@ -67,25 +65,23 @@ pub fn sign(
     handles: &[usize],
     numbers: Numbers,
     mixed: &[u8],
-    table: &[u8],
-    places: &[usize],
+    table: &StoredTable,
     chosen: &mut [usize],
 ) -> Result<Decision, Status>
     requires params_read { ParamsRead sign command.now params × HandlesRead sign command.now handles.now params.handle_count }
-    requires indexed { Indexed table.now places.now }
     requires chosen_len { length chosen.old ≡ 8 }
-    ensures { (k : List ℕ) → Decides sign command.now numbers mixed.now k (table_in table.now) params
+    ensures { (k : List ℕ) → Decides sign command.now numbers mixed.now k table.now params
         chosen.new (decided result) }
 {
     judge_sign(params.broken, numbers.verdict)?;
     let given = &handles[..params.handle_count];
-    let named = choose(table, places, mixed, command, given, chosen);
+    let named = table.choose(mixed, command, given, chosen);
     match named {
         0 => Err(Status::AccessDenied),
         1 => {
             let i = chosen[0];
             let content = !params.transaction_content.is_empty();
-            let count = count_of(table, places[i]);
+            let count = table.count_of(i);
             sign_one(content, numbers.display, count, i)
         }
         _ => Ok(Decision {

@@ -26,7 +26,6 @@ use Rattle.tlv.proofs.WriteLaws.{then, same, front, from_front, wrote_none}
 use Rattle.fields.specs.Refusals.{ended, ends}
 use Rattle.fields.specs.declared.refusals.Refusal.TheVariants.{ShortOutput, BrokenTable}
 use Rattle.stored_table.specs.Stored.{record_of, beside_name}
-use Rattle.stored_table.specs.Index.{IndexOf}
 use Rattle.stored_table.proofs.IndexLaws.{encode-append}
 use Rattle.key_table.specs.Views.{view_record, view_table, no_value}
 use Rattle.key_table.specs.Forms.{FormIs, storing}
@@ -106,8 +105,8 @@ table_there : {t : model.Table} {out : List ℕ} {n : ℕ} → FormIs t out n �
 unfolding table_of
 table_there f = ap given f.view ∙ read_test _ _
 
-pub form_ok : {t : model.Table} {out places : List ℕ} {n m : ℕ} → FormIs t out n → IndexOf (take n out) places m → table_ok t ≡ true
-form_ok f x = sym (table_there f) ∙ ap given x.view
+pub form_ok : {t u : model.Table} {out : List ℕ} {n : ℕ} → FormIs t out n → decode (take n out) ≡ some u → table_ok t ≡ true
+form_ok f e = sym (table_there f) ∙ ap given e
 
 pub form-refused : {t : model.Table} {out : List ℕ} {n : ℕ} → FormIs t out n → decode (take n out) ≡ none → table_ok t ≡ false
 form-refused f e = sym (table_there f) ∙ ap given e

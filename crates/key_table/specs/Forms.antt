@@ -7,7 +7,6 @@ use Rattle.model.specs.Commands as commands
 use Rattle.model.specs.Commands.{check, judge, refused, gave, value, table_of}
 use Rattle.fields.specs.declared.refusals.Refusal.{Refusal}
 use Rattle.fields.specs.declared.refusals.Refusal.TheVariants.{BrokenTable}
-use Rattle.stored_table.specs.Stored.{name_size, Stands}
 use Rattle.key_table.specs.Views.{table_value}
 use Rattle.key_table.specs.declared.records.Table.{Table}
 
@@ -27,8 +26,3 @@ storing t n = judge (check 1 (ltb n max_stored) ∷ check 2 (not (table_ok t)) �
 unfoldable pub loading : Option model.Table → Result Table Refusal
 loading none = Err BrokenTable
 loading (some t) = Ok (table_value t)
-
--- a stored record with a short name lies at a place
-pub record ValueAt (table : List ℕ) (place : ℕ) : Type 0 where
-  pub stands : Stands table place
-  pub short : name_size table place ≤ 128

@@ -1,18 +1,18 @@
-ghost use Rattle.std.specs.Prelude.{◌≡◌, ◌+◌, ◌≤◌, true, ◌&&◌, [], ◌∷◌, leb, length};
+ghost use Rattle.std.specs.Prelude.{◌≡◌, ◌+◌, ◌≤◌, ◌<◌, true, ◌&&◌, [], ◌∷◌, leb, length, get_or};
 ghost use Rattle.model.specs.Lists.{all};
 ghost use Rattle.model.specs.Records.{record_ok, max_records, encode, max_stored, decode};
 ghost use Rattle.tlv.specs.Writing.{Wrote};
 ghost use Rattle.fields.specs.Refusals.{ended, ends};
-ghost use Rattle.stored_table.specs.Stored.{beside_name, record_at, Indexed, table_in};
+ghost use Rattle.stored_table.specs.Stored.{beside_name, no_record};
 ghost use Rattle.key_table.specs.Views.{view_record, view_table, record_value, table_value};
-ghost use Rattle.key_table.specs.Forms.{FormIs, storing, loading, ValueAt};
+ghost use Rattle.key_table.specs.Forms.{FormIs, storing, loading};
 
 use crate::records::{Record, Table, no_table, record_of};
 use crate::rules::records_ok;
 use fields::refusals::Refusal;
-use stored_table::index::index_of;
 use stored_table::left::put_record;
-use stored_table::records::{MAX_RECORDS, MAX_STORED, count_of, key_of, mixed_of, name_of};
+use stored_table::records::{MAX_RECORDS, MAX_STORED};
+use stored_table::table::StoredTable;
 use tlv::numbers::put8;
 use tlv::writer::put_bytes;
 
@@ -60,32 +60,32 @@ pub fn store(t: Table, out: &mut [u8]) -> Result<usize, Refusal>
     let mut form = [0u8; MAX_STORED];
     let n = put_form(&mut form, t);
     let mut places = [0usize; MAX_RECORDS];
-    let Some(_) = index_of(&form[..n], &mut places) else {
+    let Some(_) = StoredTable::read(&form[..n], &mut places) else {
         return Err(Refusal::BrokenTable);
     };
     Ok(put_bytes(out, 0, &form[..n]))
 }
 
-// The record at a place of a stored table, by value.
-fn value_at(table: &[u8], place: usize) -> Record
-    requires { ValueAt table.now place }
-    ensures { result ≡ record_value (record_at table.now place) }
+// Record i of a stored table, by value.
+fn value_at(table: &StoredTable, i: usize) -> Record
+    requires { i < length table.now }
+    ensures { result ≡ record_value (get_or table.now i no_record) }
 {
-    let key_id = key_of(table, place);
-    let mixed = mixed_of(table, place);
-    record_of(key_id, mixed, name_of(table, place), count_of(table, place))
+    let key_id = table.key_of(i);
+    let mixed = table.mixed_of(i);
+    record_of(key_id, mixed, table.name_of(i), table.count_of(i))
 }
 
 // All records of a stored table, by value.
-fn values_at(table: &[u8], places: &[usize]) -> Table
-    requires { Indexed table.now places.now }
-    ensures { result ≡ table_value (table_in table.now) }
+fn values_at(table: &StoredTable) -> Table
+    ensures { result ≡ table_value table.now }
 {
     let mut t = no_table();
-    for (i, &place) in places.iter().enumerate() {
-        t.records[i] = value_at(table, place);
+    let len = table.len();
+    for i in 0..len {
+        t.records[i] = value_at(table, i);
     }
-    t.len = places.len();
+    t.len = len;
     t
 }
 
@@ -94,8 +94,8 @@ pub fn load(stored: &[u8]) -> Result<Table, Refusal>
     ensures { result ≡ loading (decode stored.now) }
 {
     let mut places = [0usize; MAX_RECORDS];
-    match index_of(stored, &mut places) {
+    match StoredTable::read(stored, &mut places) {
         None => Err(Refusal::BrokenTable),
-        Some(n) => Ok(values_at(stored, &places[..n])),
+        Some(table) => Ok(values_at(&table)),
     }
 }

@@ -1,8 +1,7 @@
 ghost use Rattle.std.specs.Prelude.{◌≡◌, ◌-◌, ◌≤◌, length};
-ghost use Rattle.model.specs.Commands.{bytes_of};
+ghost use Rattle.model.specs.Commands.{least_output, bytes_of};
 ghost use Rattle.tlv.specs.Writing.{Wrote};
 ghost use Rattle.params.specs.Kinds.{kind_is};
-ghost use Rattle.stored_table.specs.Stored.{Indexed, table_in};
 ghost use Rattle.replies.specs.Replies.{answer_of, challenge_len, reply_size, Short, Ready};
 
 use crate::drafts::{put_krd, put_signed_data};
@@ -13,7 +12,7 @@ use crate::status::put_status;
 use params::kinds::Kind;
 use params::lent::Lent;
 use params::parse::Params;
-use stored_table::records::key_of;
+use stored_table::table::StoredTable;
 use tlv::heads::{Span, part_of};
 
 // How many bytes a reply that names the records with these numbers takes, to a command whose challenge hash is this part of it.
@@ -23,18 +22,17 @@ pub fn reply_len(
     challenge: Span,
     public_key: &[u8],
     nonce: &[u8],
-    table: &[u8],
-    places: &[usize],
+    table: &StoredTable,
 ) -> usize
-    requires start_le_end { (challenge.start ≤ challenge.end)
-        × Short (challenge.end - challenge.start) (length public_key.now) (length nonce.now) (table_in table.now) named.now shape }
-    requires indexed { Indexed table.now places.now }
-    ensures { result ≡ reply_size (challenge.end - challenge.start) (length public_key.now) (length nonce.now) (table_in table.now) named.now shape }
+    requires { (challenge.start ≤ challenge.end)
+        × Short (challenge.end - challenge.start) (length public_key.now) (length nonce.now) table.now named.now shape }
+    ensures { (result ≡ reply_size (challenge.end - challenge.start) (length public_key.now) (length nonce.now) table.now named.now shape)
+        × (result ≤ least_output) }
 {
     match shape {
         Shape::Status(_) => 10,
         Shape::Info => 94,
-        Shape::Names => 10 + pairs_len(table, places, named),
+        Shape::Names => 10 + pairs_len(table, named),
         Shape::Registration => 84 + challenge.len() + public_key.len(),
         Shape::Signed {
             record: _,
@@ -57,19 +55,17 @@ pub fn write_reply(
     command: &[u8],
     params: Params,
     lent: &Lent,
-    table: &[u8],
-    places: &[usize],
+    table: &StoredTable,
 ) -> usize
-    requires ready { Ready command.now lent.now (table_in table.now) params named.now shape }
-    requires indexed { Indexed table.now places.now }
-    requires len_value { (len ≡ reply_size (challenge_len params) (length lent.now.public_key) (length lent.now.nonce) (table_in table.now) named.now shape)
+    requires ready { Ready command.now lent.now table.now params named.now shape }
+    requires len_value { (len ≡ reply_size (challenge_len params) (length lent.now.public_key) (length lent.now.nonce) table.now named.now shape)
         × (len ≤ length out.old) }
-    ensures { Wrote out.old 0 (bytes_of (answer_of (kind_is kind) command.now lent.now (table_in table.now) named.now shape)) len out.new result }
+    ensures { Wrote out.old 0 (bytes_of (answer_of (kind_is kind) command.now lent.now table.now named.now shape)) len out.new result }
 {
     match shape {
         Shape::Status(status) => put_status(out, kind, status),
         Shape::Info => put_info(out, lent.aaid, lent.metadata),
-        Shape::Names => put_names(out, len, table, places, named),
+        Shape::Names => put_names(out, len, table, named),
         Shape::Registration => put_krd(
             out,
             len,
@@ -92,7 +88,7 @@ pub fn write_reply(
             lent.nonce,
             part_of(command, params.challenge_hash),
             part_of(command, params.transaction_content),
-            key_of(table, places[record]),
+            table.key_of(record),
             count,
         ),
     }

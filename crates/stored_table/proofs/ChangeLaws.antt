@@ -9,7 +9,7 @@ use lib.ListN.{length, get_or, set, length-map, get_or-map}
 use borrow.Author.Tests.{not-true}
 use Rattle.model.specs.Lists.{select, eq_bytes, among, distinct}
 use Rattle.model.specs.Records as model
-use Rattle.model.specs.Records.{key_ids, has_mixed, table_ok, max_stored}
+use Rattle.model.specs.Records.{key_ids, has_mixed, table_ok, encode, max_stored}
 use Rattle.model.specs.Commands.{keep, set_count, is_key, with_count, apply}
 use Rattle.model.proofs.Basics.{split, clash, and_left, and_right, both, or_left, or_right, eq_bytes-refl, eq_bytes-eq, eq_bytes-not, select-same}
 use Rattle.model.proofs.Rules.{among_at, tests}
@@ -35,8 +35,12 @@ unfolding apply
 apply_kept m t = refl
 
 -- a stored table is as long as its output may have to be, at most
-pub stored-most : {table places : List ℕ} → Indexed table places → length table ≤ max_stored
-stored-most {table} x = subst (λ (s : List ℕ). length s ≤ max_stored) x.whole (length-encode (table_in table) x.ok)
+module _ {table places : List ℕ} (x : Indexed table places) where
+  pub stored-most : length table ≤ max_stored
+  stored-most = subst (λ (s : List ℕ). length s ≤ max_stored) x.whole (length-encode (table_in table) x.ok)
+
+  pub encoded-most : {t : model.Table} → table_in table ≡ t → length (encode t) ≤ max_stored
+  encoded-most v = rw (← v) (length-encode (table_in table) x.ok)
 
 -- ---- records removed
 

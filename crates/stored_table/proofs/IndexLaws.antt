@@ -16,7 +16,7 @@ use Rattle.model.specs.Records.{record_ok, own, key_ids, encode}
 use Rattle.model.specs.Commands.{with_count}
 use Rattle.model.proofs.Basics.{split, and_left, and_right}
 use Rattle.model.proofs.Numbers.{length-le, num-le}
-use Rattle.model.proofs.Rules.{RecordRules, record_rules, tests}
+use Rattle.model.proofs.Rules.{obeys_rules, RecordRules, record_rules, tests}
 use Rattle.model.proofs.Tlvs.{bytes-append, bytes_one}
 use Rattle.tlv.specs.Numbers.{num_at}
 use Rattle.tlv.specs.Rows.{rows, row, Within, times}
@@ -187,9 +187,9 @@ module _ (table : List ℕ) (place : ℕ) (h : Stands table place) where
   unfolding record_at
   key_length e = rw e (row-length key_id_at (omega arith))
 
-  pub mixed-length : {m : List ℕ} → m ≡ (record_at table place).mixed → length m ≡ 32
+  pub mixed_length : {m : List ℕ} → m ≡ (record_at table place).mixed → length m ≡ 32
   unfolding record_at
-  mixed-length e = rw e (row-length mixed_at (omega arith))
+  mixed_length e = rw e (row-length mixed_at (omega arith))
 
 -- ---- each record of a stored table
 
@@ -289,8 +289,8 @@ module _ {table places : List ℕ} (x : Indexed table places) where
     pub place_is : get_or places i 0 ≡ length (encode (take i (table_in table)))
     place_is = rw x.places-are (start_at 0 t (tests t x.ok).each i numbered ∙ zero-add _)
 
-  pub few-places : length places ≤ 32
-  few-places = omega (arith, length-places, (tests t x.ok).few)
+  pub few_places : length places ≤ 32
+  few_places = omega (arith, length-places, (tests t x.ok).few)
 
   pub all_stand : AllStand table places
   all_stand = located_stand table places t all_located
@@ -300,3 +300,36 @@ module _ {table places : List ℕ} (x : Indexed table places) where
 
   pub mixed-are : rows mixed_at places table ≡ map (λ r. r.mixed) (table_in table)
   mixed-are = located_mixed table places t all_located
+
+  -- there are as many as the table that contracts see has records
+  pub counted : {t : model.Table} → table_in table ≡ t → length places ≡ length t
+  counted v = omega (arith, length-places, ap length v)
+
+  pub sized : {t : model.Table} → table_in table ≡ t → length table ≡ length (encode t)
+  sized v = rw (← v, x.whole)
+
+  -- its record i
+  module _ {t : model.Table} (v : table_in table ≡ t) (i : ℕ) (h : i < length t) where
+    pub has_place : i < length places
+    has_place = omega (arith, counted v)
+
+    pub stands_at : Stands table (get_or places i 0)
+    stands_at = (record-at i has_place).stands
+
+    pub stored_at : record_at table (get_or places i 0) ≡ get_or t i no_record
+    stored_at = rw (← v) (record-at i has_place).is
+
+    pub key_sized : {k : List ℕ} → k ≡ (record_at table (get_or places i 0)).key_id → length k ≡ 32
+    key_sized = key_length table (get_or places i 0) stands_at
+
+    pub mixed_sized : {m : List ℕ} → m ≡ (record_at table (get_or places i 0)).mixed → length m ≡ 32
+    mixed_sized = mixed_length table (get_or places i 0) stands_at
+
+    pub short_at : name_size table (get_or places i 0) ≤ 128
+    short_at = omega (arith, (record-at i has_place).size, (obeys_rules (table_in table) x.ok).each i (numbered i has_place))
+
+    pub name_short : {n : List ℕ} → n ≡ (record_at table (get_or places i 0)).name → length n ≤ 128
+    name_short e = omega (arith, name-length table (get_or places i 0) stands_at e, short_at)
+
+    pub sized_at : name_size table (get_or places i 0) ≡ length (get_or t i no_record).name
+    sized_at = rw (← v) (record-at i has_place).size

@@ -21,7 +21,7 @@ use Rattle.tlv.specs.Writing.{Wrote}
 use Rattle.tlv.proofs.WriteLaws.{then, then_run, then_value, same, front, from_front, wrote_none}
 use Rattle.stored_table.specs.Stored.{beside_name, count_at, record_of, no_record, record_at, table_in, Indexed}
 use Rattle.stored_table.specs.Changes.{goes, removal, staying_of, stay_first}
-use Rattle.stored_table.proofs.IndexLaws.{inside, up_to, encode_one, encode-append, encode-count, length-up_to, record-at, numbered, place_is, length-places}
+use Rattle.stored_table.proofs.IndexLaws.{inside, up_to, encode_one, encode-append, encode-count, length-up_to, record-at, numbered, place_is, length-places, stored_at}
 use Rattle.stored_table.proofs.ChangeLaws.{stays, removal_selects}
 
 -- ---- a record
@@ -176,23 +176,23 @@ module _ (m key : List ℕ) where
       split (goes m key r) (λ e. rw e (simp length-append (omega (arith, ih)))) (λ e. rw e (simp length-append (omega (arith, ih))))
 
   -- of the records from j on the first goes, or stays
-  module _ {table places : List ℕ} (x : Indexed table places) (j : ℕ) (h : j < length places) {g : Bool}
+  module _ {table places : List ℕ} (x : Indexed table places) {t : model.Table} (v : table_in table ≡ t) (j : ℕ) (h : j < length t) {g : Bool}
       (e : g ≡ goes m key (record_at table (get_or places j 0))) where
-    from-here : drop j (table_in table) ≡ record_at table (get_or places j 0) ∷ drop (suc j) (table_in table)
-    from-here = drop-cons (table_in table) j no_record (numbered x j h) ∙ rw (record-at x j h).is
+    from-here : drop j t ≡ record_at table (get_or places j 0) ∷ drop (suc j) t
+    from-here = drop-cons t j no_record h ∙ rw (stored_at x v j h)
 
-    pub goes-here : g ≡ true → stay_first m key (drop j (table_in table)) ≡ 0
+    pub goes-here : g ≡ true → stay_first m key (drop j t) ≡ 0
     unfolding stay_first
     goes-here f = rw (from-here, ← e, f)
 
-    pub stays_here : g ≡ false → stay_first m key (drop j (table_in table)) ≡ suc (stay_first m key (drop (j + 1) (table_in table)))
+    pub stays_here : g ≡ false → stay_first m key (drop j t) ≡ suc (stay_first m key (drop (j + 1) t))
     unfolding stay_first
     stays_here f = rw (from-here, ← e, f, add-one)
 
   -- none is left
-  pub none_here : {table places : List ℕ} → Indexed table places → (j : ℕ) → length places ≤ j → stay_first m key (drop j (table_in table)) ≡ 0
+  pub none_here : (t : model.Table) (j : ℕ) → length t ≤ j → stay_first m key (drop j t) ≡ 0
   unfolding stay_first
-  none_here {table} x j h = rw (drop_of_length-le (table_in table) {i = j} (omega (arith, length-places x)))
+  none_here t j h = rw (drop_of_length-le t {i = j} h)
 
 -- ---- a walk over the records of a stored table, in which those that stay are written run by run
 

@@ -6,3 +6,4 @@ pub mod LookupLaws
 pub mod NewestLaws
 pub mod ChangeLaws
 pub mod LeftLaws
+pub mod NameLaws

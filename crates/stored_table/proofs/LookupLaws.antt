@@ -92,8 +92,8 @@ module _ (m : List ℕ) (hs : List (List ℕ)) (t : model.Table) where
     pub chosen-records : records_at t is ≡ chosen hs (own m t)
     chosen-records = ap (map (λ i. get_or t i no_record)) e ∙ positions-select (is_chosen m hs) no_record t ∙ chosen_is
 
-    pub chosen_of : table_ok t ≡ true → ChosenOf t is
-    chosen_of ok = rw e (record { few = chosen-few ok; each = λ i l. omega (arith, positions_below (is_chosen m hs) 0 t i l) })
+    pub chosen_of : length is ≤ 8 → ChosenOf t is
+    chosen_of few = record { few = few; each = rw e (λ i l. omega (arith, positions_below (is_chosen m hs) 0 t i l)) }
 
 -- ---- a walk over the records of a stored table
 
@@ -176,8 +176,8 @@ own_going m k h (r ∷ t) =
     (λ e. rw e (ltb-suc _ (length t) ∙ ih))
 
 -- where n is the number of the first that would
-pub own_first : (m k : List ℕ) {table places : List ℕ} {n : ℕ} → Indexed table places → empty k ≡ false
-    → n ≡ 0 + stay_first m k (drop 0 (table_in table)) → ltb n (length places) ≡ among k (key_ids (own m (table_in table)))
-own_first m k {table} {n = n} x h e =
-    let first : n ≡ stay_first m k (table_in table) = omega arith in
-    rw (first, length-places x) (own_going m k h (table_in table))
+pub own_first : (m k : List ℕ) (t : model.Table) {n : ℕ} → empty k ≡ false → n ≡ 0 + stay_first m k (drop 0 t)
+    → ltb n (length t) ≡ among k (key_ids (own m t))
+own_first m k t {n} h e =
+    let first : n ≡ stay_first m k t = omega arith in
+    rw first (own_going m k h t)

@@ -6,6 +6,7 @@ ghost use Rattle.stored_table.specs.Stored.{beside_name, record_of, no_record, S
 ghost use Rattle.stored_table.specs.Changes.{goes, removal, stay_first, change_of, Can};
 
 use crate::records::{INSIDE_BESIDE_NAME, KEY_ID, MIXED, count_place};
+use crate::table::StoredTable;
 use fields::tags;
 use tlv::heads::{Span, part_of};
 use tlv::numbers::put32;
@@ -48,38 +49,6 @@ pub fn put_record(
     put_tlv32(out, a4, tags::COUNTERS, count as usize)
 }
 
-// Writes the table itself: the same bytes.
-fn put_kept(out: &mut [u8], table: &[u8]) -> usize
-    requires { (encode (table_in table.now) ≡ table.now) × (length table.now ≤ length out.old) }
-    ensures { Wrote out.old 0 (encode (table_in table.now)) result out.new result }
-{
-    put_bytes(out, 0, table)
-}
-
-// The table with a record more, as the newest, its counter 0.
-fn put_added(out: &mut [u8], table: &[u8], key_id: &[u8], mixed: &[u8], name: &[u8]) -> usize
-    requires table_value { (encode (table_in table.now) ≡ table.now) × (table_ok (table_in table.now) ≡ true) × (length (table_in table.now) < 32) }
-    requires key_id_len { (length key_id.now ≡ 32) × (length mixed.now ≡ 32) × (length name.now ≤ 128) }
-    requires max_stored_in_bounds { max_stored ≤ length out.old }
-    ensures { Wrote out.old 0 (encode (apply mixed.now (add key_id.now name.now) (table_in table.now)))
-        result out.new result }
-{
-    let end = put_bytes(out, 0, table);
-    put_record(out, end, key_id, mixed, name, 0)
-}
-
-// The table with another count in record i: the same bytes, and the count over the old one.
-fn put_counted(out: &mut [u8], table: &[u8], places: &[usize], i: usize, count: u32) -> usize
-    requires { Indexed table.now places.now × (i < length places.now) × (length table.now ≤ length out.old) }
-    ensures { Wrote out.old 0
-        (encode (set (table_in table.now) i (with_count (get_or (table_in table.now) i no_record) count))) result out.new result }
-{
-    let place = count_place(table, places[i]);
-    let end = put_bytes(out, 0, table);
-    put32(out, place, count as usize);
-    end
-}
-
 // Whether the record at a place goes: it has the mixed token and, unless the KeyID is empty, the KeyID.
 #[tactic(auto, unfolding(crate::specs::Stored::record_at))]
 fn is_going(table: &[u8], place: usize, mixed: &[u8], key: &[u8]) -> bool
@@ -89,74 +58,87 @@ fn is_going(table: &[u8], place: usize, mixed: &[u8], key: &[u8]) -> bool
     row_is(table, place + MIXED, mixed) && (key.is_empty() || row_is(table, place + KEY_ID, key))
 }
 
-// The number of the first record from i on that goes; if none does, how many there are.
-pub fn next_going(table: &[u8], places: &[usize], i: usize, mixed: &[u8], key: &[u8]) -> usize
-    requires { Indexed table.now places.now × (i ≤ length places.now) }
-    ensures { result ≡ i + stay_first mixed.now key.now (drop i (table_in table.now)) }
-{
-    for j in i..places.len() {
-        if is_going(table, places[j], mixed, key) {
-            return j;
+impl<'a> StoredTable<'a> {
+    // The number of the first record from i on that goes; if none does, how many there are.
+    pub(crate) fn next_going(&self, i: usize, mixed: &[u8], key: &[u8]) -> usize
+        requires { i ≤ length self.now }
+        ensures { result ≡ i + stay_first mixed.now key.now (drop i self.now) }
+    {
+        for j in i..self.places.len() {
+            if is_going(self.bytes, self.places[j], mixed, key) {
+                return j;
+            }
         }
+        self.places.len()
     }
-    places.len()
-}
 
-// Where record j starts; where the table ends, if there are no more.
-#[tactic(auto, using(crate::proofs::IndexLaws::place_is, crate::proofs::LeftLaws::end_is))]
-fn start_of(table: &[u8], places: &[usize], j: usize) -> usize
-    requires { Indexed table.now places.now }
-    ensures { result ≡ length (encode (take j (table_in table.now))) }
-{
-    places.get(j).copied().unwrap_or(table.len())
-}
+    // Where record j starts; where the table ends, if there are no more.
+    fn start_of(&self, j: usize) -> usize
+        ensures { result ≡ length (encode (take j self.now)) }
+    {
+        self.places.get(j).copied().unwrap_or(self.bytes.len())
+    }
 
-// The table without the record of a mixed token that has this KeyID or, if the KeyID is empty, without all of the mixed token's. The rest keeps its
-// order and closes the gap: what stands between two records that go is written at once.
-#[tactic(auto, using(crate::proofs::IndexLaws::place_is, crate::proofs::LeftLaws::stored_ends, crate::proofs::LeftLaws::end_is))]
-pub fn put_removed(
-    out: &mut [u8],
-    table: &[u8],
-    places: &[usize],
-    mixed: &[u8],
-    key: &[u8],
-) -> usize
-    requires { Indexed table.now places.now × (length table.now ≤ length out.old) }
-    ensures { Wrote out.old 0 (encode (apply mixed.now (removal key.now) (table_in table.now)))
-        result out.new result }
-{
-    let mut end = 0;
-    let mut from = 0;
-    for (i, place) in places.iter().enumerate() {
-        if is_going(table, *place, mixed, key) {
-            end = put_bytes(out, end, &table[from..*place]);
-            from = start_of(table, places, i + 1);
+    // The table with a record more, as the newest, its counter 0.
+    fn put_added(&self, out: &mut [u8], key_id: &[u8], mixed: &[u8], name: &[u8]) -> usize
+        requires self_len { length self.now < 32 }
+        requires key_id_len { (length key_id.now ≡ 32) × (length mixed.now ≡ 32) × (length name.now ≤ 128) }
+        requires max_stored_in_bounds { max_stored ≤ length out.old }
+        ensures { Wrote out.old 0 (encode (apply mixed.now (add key_id.now name.now) self.now)) result out.new result }
+    {
+        let end = put_bytes(out, 0, self.bytes);
+        put_record(out, end, key_id, mixed, name, 0)
+    }
+
+    // The table with another count in record i: the same bytes, and the count over the old one.
+    #[tactic(auto, using(crate::proofs::IndexLaws::has_place, crate::proofs::IndexLaws::stands_at))]
+    fn put_counted(&self, out: &mut [u8], i: usize, count: u32) -> usize
+        requires { (i < length self.now) × (length (encode self.now) ≤ length out.old) }
+        ensures { Wrote out.old 0 (encode (set self.now i (with_count (get_or self.now i no_record) count))) result out.new result }
+    {
+        let place = count_place(self.bytes, self.places[i]);
+        let end = put_bytes(out, 0, self.bytes);
+        put32(out, place, count as usize);
+        end
+    }
+
+    // The table without the record of a mixed token that has this KeyID or, if the KeyID is empty, without all of the mixed token's. The rest keeps its
+    // order and closes the gap: what stands between two records that go is written at once.
+    #[tactic(auto, using(crate::proofs::IndexLaws::place_is, crate::proofs::LeftLaws::stored_ends, crate::proofs::LeftLaws::end_is))]
+    pub fn put_removed(&self, out: &mut [u8], mixed: &[u8], key: &[u8]) -> usize
+        requires { length (encode self.now) ≤ length out.old }
+        ensures { Wrote out.old 0 (encode (apply mixed.now (removal key.now) self.now)) result out.new result }
+    {
+        let mut end = 0;
+        let mut from = 0;
+        for (i, place) in self.places.iter().enumerate() {
+            if is_going(self.bytes, *place, mixed, key) {
+                end = put_bytes(out, end, &self.bytes[from..*place]);
+                from = self.start_of(i + 1);
+            }
         }
+        put_bytes(out, end, &self.bytes[from..])
     }
-    put_bytes(out, end, &table[from..])
-}
 
-// Writes the stored form of the table that a change leaves. The change is that of a command s, lent this mixed token and this KeyID.
-pub fn put_left(
-    out: &mut [u8],
-    table: &[u8],
-    places: &[usize],
-    change: Change,
-    s: &[u8],
-    mixed: &[u8],
-    key_id: &[u8],
-) -> usize
-    requires indexed { Indexed table.now places.now }
-    requires can { Can s.now key_id.now mixed.now (table_in table.now) change }
-    requires max_stored_in_bounds { max_stored ≤ length out.old }
-    ensures { Wrote out.old 0
-        (encode (apply mixed.now (change_of s.now key_id.now (table_in table.now) change) (table_in table.now)))
-        result out.new result }
-{
-    match change {
-        Change::Keep => put_kept(out, table),
-        Change::Add(name) => put_added(out, table, key_id, mixed, part_of(s, name)),
-        Change::SetCount { record, count } => put_counted(out, table, places, record, count),
-        Change::Remove(key) => put_removed(out, table, places, mixed, part_of(s, key)),
+    // Writes the stored form of the table that a change leaves. The change is that of a command s, lent this mixed token and this KeyID.
+    pub fn put_left(
+        &self,
+        out: &mut [u8],
+        change: Change,
+        s: &[u8],
+        mixed: &[u8],
+        key_id: &[u8],
+    ) -> usize
+        requires can { Can s.now key_id.now mixed.now self.now change }
+        requires max_stored_in_bounds { max_stored ≤ length out.old }
+        ensures { Wrote out.old 0 (encode (apply mixed.now (change_of s.now key_id.now self.now change) self.now)) result out.new result }
+    {
+        let table = self.bytes;
+        match change {
+            Change::Keep => put_bytes(out, 0, table),
+            Change::Add(name) => self.put_added(out, key_id, mixed, part_of(s, name)),
+            Change::SetCount { record, count } => self.put_counted(out, record, count),
+            Change::Remove(key) => self.put_removed(out, mixed, part_of(s, key)),
+        }
     }
 }

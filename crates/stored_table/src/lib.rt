@@ -6,3 +6,4 @@ pub mod index;
 pub mod left;
 pub mod lookups;
 pub mod records;
+pub mod table;

@@ -20,22 +20,22 @@ const KEY_SIZE: usize = 32;
 
 const COUNT_SIZE: usize = 4;
 
-pub const KEY_ID: usize = HEADER + HEADER;
+pub(crate) const KEY_ID: usize = HEADER + HEADER;
 
-pub const MIXED: usize = KEY_ID + KEY_SIZE + HEADER;
+pub(crate) const MIXED: usize = KEY_ID + KEY_SIZE + HEADER;
 
-pub const NAME: usize = MIXED + KEY_SIZE + HEADER;
+pub(crate) const NAME: usize = MIXED + KEY_SIZE + HEADER;
 
 // The name's length is the second half of its header.
 const NAME_SIZE: usize = NAME - 2;
 
 // What a record takes besides its name, and of this what its value takes.
-pub const BESIDE_NAME: usize = NAME + HEADER + COUNT_SIZE;
+pub(crate) const BESIDE_NAME: usize = NAME + HEADER + COUNT_SIZE;
 
-pub const INSIDE_BESIDE_NAME: usize = BESIDE_NAME - HEADER;
+pub(crate) const INSIDE_BESIDE_NAME: usize = BESIDE_NAME - HEADER;
 
 // How long the name of the record at a place is.
-pub fn name_len(table: &[u8], place: usize) -> usize
+pub(crate) fn name_len_at(table: &[u8], place: usize) -> usize
     requires { Stands table.now place }
     ensures { result ≡ name_size table.now place }
 {
@@ -44,7 +44,7 @@ pub fn name_len(table: &[u8], place: usize) -> usize
 
 // The KeyID of the record at a place.
 #[tactic(auto, unfolding(crate::specs::Stored::record_at))]
-pub fn key_of(table: &[u8], place: usize) -> &[u8]
+pub(crate) fn key_at(table: &[u8], place: usize) -> &[u8]
     requires { Stands table.now place }
     ensures { result.now ≡ (record_at table.now place).key_id }
 {
@@ -55,7 +55,7 @@ pub fn key_of(table: &[u8], place: usize) -> &[u8]
 
 // The mixed token of the record at a place.
 #[tactic(auto, unfolding(crate::specs::Stored::record_at))]
-pub fn mixed_of(table: &[u8], place: usize) -> &[u8]
+pub(crate) fn mixed_at(table: &[u8], place: usize) -> &[u8]
     requires { Stands table.now place }
     ensures { result.now ≡ (record_at table.now place).mixed }
 {
@@ -66,26 +66,26 @@ pub fn mixed_of(table: &[u8], place: usize) -> &[u8]
 
 // The name of the record at a place.
 #[tactic(auto, unfolding(crate::specs::Stored::record_at))]
-pub fn name_of(table: &[u8], place: usize) -> &[u8]
+pub(crate) fn name_at(table: &[u8], place: usize) -> &[u8]
     requires { Stands table.now place }
     ensures { result.now ≡ (record_at table.now place).name }
 {
     let start = place + NAME;
-    let end = start + name_len(table, place);
+    let end = start + name_len_at(table, place);
     &table[start..end]
 }
 
 // Where the counter of the record at a place stands.
-pub fn count_place(table: &[u8], place: usize) -> usize
+pub(crate) fn count_place(table: &[u8], place: usize) -> usize
     requires { Stands table.now place }
     ensures { result ≡ count_at table.now place }
 {
-    place + NAME + HEADER + name_len(table, place)
+    place + NAME + HEADER + name_len_at(table, place)
 }
 
 // The counter of the record at a place.
 #[tactic(auto, unfolding(crate::specs::Stored::record_at))]
-pub fn count_of(table: &[u8], place: usize) -> u32
+pub(crate) fn count_at(table: &[u8], place: usize) -> u32
     requires { Stands table.now place }
     ensures { result ≡ (record_at table.now place).count }
 {

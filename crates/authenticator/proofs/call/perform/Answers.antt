@@ -1,9 +1,10 @@
 -- The reply is written from the front of its output and the table that is left from the front of the other; both are those of the decision.
 use mathlib.Core.Path.{◌≡◌, refl, sym}
+use native.Mathlib.Omega.{arith}
 use lib.ListN.{length}
 use lib.Seq.{length-take-le}
 use borrow.Author.Rules.{rules}
-use Rattle.authenticator.proofs.CallLaws.{register-lent, challenge-ordered, reply-ready, reply-short, reply-fits, ends-gave}
+use Rattle.authenticator.proofs.CallLaws.{register-lent, challenge-ordered, reply-ready, reply-short, ends-gave}
 use Rattle.authenticator.proofs.call.perform.Goals as goal
 use Rattle.authenticator.proofs.call.perform.Goals.{After-mixed_token-mixed}
 
@@ -25,17 +26,14 @@ decide-decision-requires c =
     record {
       params_read = c.params_of-params.ensures;
       mixed_len = λ e. (search rules, register-lent _ (rw (← c.lent.view_is) at c.requires.lent_value) e);
-      indexed = (c.requires.indexed, refl);
+      chosen_len = refl;
     }
 
 pub reply_len-response_len-requires : goal.reply_len-response_len-requires
 reply_len-response_len-requires c =
     let k = c.decide-decision.ensures in
     let lent = rw (← c.lent.view_is) at c.requires.lent_value in
-    record {
-      start_le_end = (challenge-ordered c.params_of-params.ensures.0, reply-short k _ _ _ _ lent);
-      indexed = c.requires.indexed;
-    }
+    (challenge-ordered c.params_of-params.ensures.0, reply-short k _ _ _ _ lent)
 
 pub write_reply-requires : goal.write_reply-requires
 write_reply-requires c =
@@ -43,17 +41,14 @@ write_reply-requires c =
     let k = c.decide-decision.ensures in
     let e = c.reply_len-response_len.ensures in
     let lent = rw (← c.lent.view_is) at s.lent_value in
-    let fits = reply-fits k _ _ _ _ lent _ _ s.indexed.ok e s.room.0 in
     record {
       ready = rw (← c.lent.view_is) (reply-ready k _ _ _ _ lent);
-      indexed = s.indexed;
-      len_value = (rw (← c.lent.view_is) e, fits);
+      len_value = (rw (← c.lent.view_is) e.0, omega (arith, e.1, s.room.0));
     }
 
 pub put_left-table_len-requires : goal.put_left-table_len-requires
 put_left-table_len-requires c =
     record {
-      indexed = c.requires.indexed;
       can = c.decide-decision.ensures.can;
       max_stored_in_bounds = c.requires.room.1;
     }

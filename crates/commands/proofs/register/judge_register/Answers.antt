@@ -8,11 +8,9 @@ use borrow.Author.Tests.{eq-eqb, le-leb, lt-leb}
 use Rattle.model.specs.Lists.{among}
 use Rattle.model.specs.Records.{own, key_ids}
 use Rattle.model.specs.Commands.{judge, register_checks}
-use Rattle.stored_table.specs.Stored.{table_in}
-use Rattle.stored_table.proofs.IndexLaws.{length-places}
 use Rattle.commands.proofs.JudgeLaws.{breaks_none, placed, type-inside, type_told, Admitted, admitted}
 use Rattle.commands.proofs.register.judge_register.Goals as goal
-use Rattle.commands.proofs.register.judge_register.Goals.{Else-is_stored, Else-not-is_supported, Joined-then-own_count-ge-MAX_OWN, then-own_count-ge-MAX_OWN-via-then-own_count-ge-MAX_OWN, then-own_count-ge-MAX_OWN-via-else-own_count-ge-MAX_OWN+then-places-ge-MAX_RECORDS}
+use Rattle.commands.proofs.register.judge_register.Goals.{Else-is_stored, Else-not-is_supported, Joined-then-own_count-ge-MAX_OWN, then-own_count-ge-MAX_OWN-via-then-own_count-ge-MAX_OWN, then-own_count-ge-MAX_OWN-via-else-own_count-ge-MAX_OWN+then-len-ge-MAX_RECORDS}
 
 pub get16-requires : goal.get16-requires
 get16-requires c =
@@ -41,7 +39,7 @@ first_three c =
       supported = type_told _ _ b h _ c.get16.ensures c.is_supported.ensures ∙ c.if-not-is_supported.false;
     }
 
-fresh : (c : Else-is_stored) → let a = c.args in among a.key_id.now (key_ids (table_in a.table.now)) ≡ false
+fresh : (c : Else-is_stored) → let a = c.args in among a.key_id.now (key_ids a.table.now) ≡ false
 fresh c = sym c.is_stored.ensures ∙ c.if-is_stored.false
 
 pub returns-then-is_stored : goal.returns-then-is_stored
@@ -49,17 +47,16 @@ returns-then-is_stored c =
     let p = first_three (goal.at.returns-then-is_stored c).Else-not-is_supported in
     sym (admitted _ _ _ _ _ _ _ p ∙ rw (sym c.is_stored.ensures ∙ c.if-is_stored.true))
 
--- no place: by the caller's records, or by how many places there are, which is how many records
+-- no place: by the caller's records, or by how many records there are
 full : (c : Joined-then-own_count-ge-MAX_OWN) → let a = c.args in
-    (leb 8 (length (own a.mixed.now (table_in a.table.now))) || leb 32 (length (table_in a.table.now))) ≡ true
+    (leb 8 (length (own a.mixed.now a.table.now)) || leb 32 (length a.table.now)) ≡ true
 full c =
     elim c.then-own_count-ge-MAX_OWN.branch [
       | then-own_count-ge-MAX_OWN-via-then-own_count-ge-MAX_OWN w ↦ rw (le-leb _ _ (rw c.own_count.ensures at w.if-own_count-ge-MAX_OWN.true))
-      | then-own_count-ge-MAX_OWN-via-else-own_count-ge-MAX_OWN+then-places-ge-MAX_RECORDS w ↦
+      | then-own_count-ge-MAX_OWN-via-else-own_count-ge-MAX_OWN+then-len-ge-MAX_RECORDS w ↦
           rw (
             lt-leb _ _ (rw c.own_count.ensures at w.if-own_count-ge-MAX_OWN.false),
-            ← length-places c.requires.indexed,
-            le-leb _ _ w.if-places-ge-MAX_RECORDS.true,
+            le-leb _ _ (rw w.len.ensures.0 at w.if-len-ge-MAX_RECORDS.true),
           )
     ]
 
@@ -76,6 +73,5 @@ returns c =
     ∙ rw (
       fresh back.Else-is_stored,
       lt-leb _ _ (rw c.own_count.ensures at c.if-own_count-ge-MAX_OWN.false),
-      ← length-places c.requires.indexed,
-      lt-leb _ _ c.if-places-ge-MAX_RECORDS.false,
+      lt-leb _ _ (rw c.len.ensures.0 at c.if-len-ge-MAX_RECORDS.false),
     ))

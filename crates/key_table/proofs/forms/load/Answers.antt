@@ -1,4 +1,4 @@
--- The records at the places of the index, or none.
+-- The records of the table that is read, or none.
 use Rattle.key_table.specs.Forms.{loading}
 use Rattle.key_table.proofs.forms.load.Goals as goal
 
@@ -8,4 +8,4 @@ returns-in-None c = rw c.in-None.ensures
 
 pub returns-in-Some : goal.returns-in-Some
 unfolding loading
-returns-in-Some c = rw (c.in-Some.ensures.view, c.values_at.ensures)
+returns-in-Some c = rw (c.in-Some.ensures, c.values_at.ensures)

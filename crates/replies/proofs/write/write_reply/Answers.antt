@@ -1,15 +1,10 @@
 -- By the shape: what its writer asks is at hand, and what it wrote is the reply's answer.
 use mathlib.Core.Path.{refl, sym, ◌∙◌}
-use Prim.Native.Nat.{◌<◌}
 use native.Mathlib.Omega.{arith}
-use lib.ListN.{get_or, length}
 use Rattle.tlv.proofs.HeadLaws.{length_part}
 use Rattle.tlv.proofs.WriteLaws.{same}
-use Rattle.stored_table.specs.Stored.{no_record, table_in}
-use Rattle.stored_table.proofs.IndexLaws.{RecordIs, record-at, length-places, few-places, key_length}
 use Rattle.replies.proofs.ReplyLaws.{info-is, register-draft, size_by, ready_by, wrote_by}
 use Rattle.replies.proofs.write.write_reply.Goals as goal
-use Rattle.replies.proofs.write.write_reply.Goals.{After-part_of-in-Signed}
 
 pub put_status-requires : goal.put_status-requires
 put_status-requires c =
@@ -51,25 +46,13 @@ returns-in-Registration c =
     let hash = c.part_of.ensures ∙ (ready_by _ e c.requires.ready).quoted.challenge.value in
     rw (← c.lent.view_is) (wrote_by _ e _ _ _ _ (rw (register-draft _ _) (rw hash at c.put_krd.ensures)))
 
--- the record is there
-below : (c : After-part_of-in-Signed) → c.in-Signed.record < length c.args.places.now
-below c = omega (arith, (ready_by _ c.in-Signed.is c.requires.ready).there, length-places c.requires.indexed)
-
-there : (c : After-part_of-in-Signed) → let a = c.args in
-    RecordIs a.table.now (get_or a.places.now c.in-Signed.record 0) (get_or (table_in a.table.now) c.in-Signed.record no_record)
-there c = record-at c.requires.indexed c.in-Signed.record (below c)
-
 pub returns-in-Signed : goal.returns-in-Signed
 returns-in-Signed c =
     let e = c.in-Signed.is in
     let q = (ready_by _ e c.requires.ready).quoted in
     let hash = c.part_of-in-Signed.ensures ∙ q.challenge.value in
     let shown = c.part_of-in-Signed-2.ensures ∙ q.content.value in
-    let record-is = (there (goal.at.returns-in-Signed c).After-part_of-in-Signed).is in
-    rw (← c.lent.view_is) (wrote_by _ e _ _ _ _ (rw (hash, shown, c.key_of.ensures, record-is) at c.put_signed_data.ensures))
-
-pub offset_bounds-places-record : goal.offset_bounds-places-record
-offset_bounds-places-record c = omega (arith, below (goal.at.offset_bounds-places-record c).After-part_of-in-Signed, few-places c.requires.indexed)
+    rw (← c.lent.view_is) (wrote_by _ e _ _ _ _ (rw (hash, shown, c.key_of.ensures.0) at c.put_signed_data.ensures))
 
 pub put_signed_data-requires : goal.put_signed_data-requires
 put_signed_data-requires c =
@@ -77,14 +60,10 @@ put_signed_data-requires c =
     let g = ready_by _ e (rw (← c.lent.view_is) at c.requires.ready) in
     let size = (rw (← c.lent.view_is) at c.requires.len_value.0) ∙ size_by _ e _ _ _ _ in
     let part = c.part_of-in-Signed.ensures in
-    let stands = (there (goal.at.put_signed_data-requires c).After-part_of-in-Signed).stands in
     record {
-      aaid_len = (g.aaid, g.nonce, rw part g.quoted.short, key_length _ _ stands c.key_of.ensures);
+      aaid_len = (g.aaid, g.nonce, rw part g.quoted.short, c.key_of.ensures.1);
       len_value = (rw (part, length_part g.quoted.challenge.inside) size, c.requires.len_value.1);
     }
 
-pub bounds-places-record : goal.bounds-places-record
-bounds-places-record c = below (goal.at.bounds-places-record c).After-part_of-in-Signed
-
 pub key_of-requires : goal.key_of-requires
-key_of-requires c = (there (goal.at.key_of-requires c).After-part_of-in-Signed).stands
+key_of-requires c = (ready_by _ c.in-Signed.is c.requires.ready).there

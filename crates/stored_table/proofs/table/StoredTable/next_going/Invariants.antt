@@ -2,10 +2,8 @@
 use mathlib.Core.Path.{◌≡◌}
 use Prim.Native.Nat.{◌+◌}
 use lib.ListN.{drop}
-use Rattle.stored_table.specs.Stored.{table_in}
 use Rattle.stored_table.specs.Changes.{stay_first}
-use Rattle.stored_table.proofs.left.next_going.Given as goal
+use Rattle.stored_table.proofs.table.StoredTable.next_going.Given as goal
 
 abbrev pub invariant-loop-j : goal.invariant-loop-j
-invariant-loop-j l =
-    l.i + stay_first l.mixed l.key (drop l.i (table_in l.table)) ≡ l.j + stay_first l.mixed l.key (drop l.j (table_in l.table))
+invariant-loop-j l = l.i + stay_first l.mixed l.key (drop l.i l.self) ≡ l.j + stay_first l.mixed l.key (drop l.j l.self)
