@@ -4,6 +4,21 @@ use Rattle.stored_table.proofs.LeftLaws.{removing_none, removing-room, removing-
 use Rattle.stored_table.proofs.table.StoredTable.put_removed.Goals as goal
 use Rattle.stored_table.proofs.table.StoredTable.put_removed.Goals.{then-is_going, else-is_going}
 
+pub returns : goal.returns
+returns c = rw (← c.self.view_is) (removing-all _ _ c.self.invariant c.loop-i.invariant c.loop-i-test.false c.put_bytes.ensures)
+
+pub loop-i-preserved : goal.loop-i-preserved
+loop-i-preserved c =
+    let x = c.self.invariant in
+    let h = c.loop-i-test.true in
+    elim c.if-is_going.branch [
+      | then-is_going w ↦
+          let goes = w.if-is_going.true in
+          rw (w.out-is, w.end-is, w.from-is)
+          (removing-goes _ _ x c.loop-i.invariant h c.is_going.ensures goes w.put_bytes-end.ensures (rw (← c.self.view_is) at w.start_of-from.ensures))
+      | else-is_going w ↦ rw (w.out-is, w.end-is, w.from-is) (removing-stays _ _ x c.loop-i.invariant h c.is_going.ensures w.if-is_going.false)
+    ]
+
 pub loop-i-init : goal.loop-i-init
 loop-i-init c = removing_none _ _ c.self.invariant _
 
@@ -18,21 +33,6 @@ pub put_bytes-end-requires : goal.put_bytes-end-requires
 put_bytes-end-requires c =
     omega (arith, removing-room _ _ c.self.invariant c.loop-i.invariant (place_is c.self.invariant c.loop-i.i c.loop-i-test.true), c.requires, sized c.self.invariant c.self.view_is)
 
-pub loop-i-preserved : goal.loop-i-preserved
-loop-i-preserved c =
-    let x = c.self.invariant in
-    let h = c.loop-i-test.true in
-    elim c.if-is_going.branch [
-      | then-is_going w ↦
-          let goes = w.if-is_going.true in
-          rw (w.out-is, w.end-is, w.from-is)
-          (removing-goes _ _ x c.loop-i.invariant h c.is_going.ensures goes w.put_bytes-end.ensures (rw (← c.self.view_is) at w.start_of-from.ensures))
-      | else-is_going w ↦ rw (w.out-is, w.end-is, w.from-is) (removing-stays _ _ x c.loop-i.invariant h c.is_going.ensures w.if-is_going.false)
-    ]
-
 pub put_bytes-requires : goal.put_bytes-requires
 put_bytes-requires c =
     omega (arith, removing-room _ _ c.self.invariant c.loop-i.invariant (end_is c.self.invariant c.loop-i.i c.loop-i-test.false), c.requires, sized c.self.invariant c.self.view_is)
-
-pub returns : goal.returns
-returns c = rw (← c.self.view_is) (removing-all _ _ c.self.invariant c.loop-i.invariant c.loop-i-test.false c.put_bytes.ensures)
