@@ -95,6 +95,15 @@ sized t ok (j ∷ is) each =
     let rest = sized t ok is (λ i h. each (suc i) (omega arith)) in
     omega (arith, size-one (get_or t j no_record) (records_at t is) r.key-id, rest)
 
+-- and a name at most 128
+pub sized-most : (t : model.Table) → model.table_ok t ≡ true → (is : List ℕ) → ((i : ℕ) → i < length is → get_or is i 0 < length t)
+    → pairs_size (records_at t is) ≤ 172 * length is
+sized-most t ok [] each = omega arith
+sized-most t ok (j ∷ is) each =
+    let r = (obeys_rules t ok).each j (each 0 (omega arith)) in
+    let rest = sized-most t ok is (λ i h. each (suc i) (omega arith)) in
+    omega (arith, r.name-most, rest)
+
 -- ---- the records that are named
 
 pub pairs-sum : (t : model.Table) (is : List ℕ)

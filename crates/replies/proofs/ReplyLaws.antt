@@ -11,7 +11,7 @@ use Rattle.model.specs.Sha256.{sha256}
 use Rattle.model.specs.Tlv.{le, bytes, Kind, get_info, register, sign, challenge_hash, transaction_content, field_in}
 use Rattle.model.specs.Layouts.{fill, write}
 use Rattle.model.specs.Records.{Record, Table, table_ok}
-use Rattle.model.specs.Commands.{Lent, lent_ok, response, draft, bytes_of, info_response, name_response, register_draft, has_content, transaction_hash, sign_draft}
+use Rattle.model.specs.Commands.{Lent, least_output, lent_ok, response, draft, bytes_of, info_response, name_response, register_draft, has_content, transaction_hash, sign_draft}
 use Rattle.model.proofs.Sha256Laws.{sha256-length}
 use Rattle.model.proofs.Rules.{obeys_rules}
 use Rattle.model.proofs.LentLaws.{ProfileRules, RegisterRules, SignRules, lent_rules}
@@ -24,7 +24,7 @@ use Rattle.replies.specs.Writes.{info_written, krd, signed_draft, pairs_of}
 use Rattle.replies.specs.Replies.{shape_answer, answer_of, is_draft, challenge_len, pairs_size, shape_size, reply_size, Quoted, SoundShape, Sound, ReadyShape, Ready, ShortShape, Short}
 use Rattle.replies.specs.declared.reply.Shape.{Shape}
 use Rattle.replies.specs.declared.reply.Shape.TheVariants.{Status, Info, Names, Registration, Signed}
-use Rattle.replies.proofs.PairLaws.{sized}
+use Rattle.replies.proofs.PairLaws.{sized, sized-most}
 
 -- ---- which answer it is
 
@@ -105,6 +105,13 @@ pub hash_most : (content : Bool) → cond content 36 4 ≤ 36
 hash_most true = omega arith
 hash_most false = omega arith
 
+shape_most : (c p n : ℕ) (named : Table) (x : Shape) → pairs_size named ≤ 1376 → ShortShape c p n x → shape_size c p n named x ≤ least_output
+shape_most c p n named (Status m) few h = omega arith
+shape_most c p n named Info few h = omega arith
+shape_most c p n named Names few h = omega arith
+shape_most c p n named Registration few h = omega (arith, h)
+shape_most c p n named (Signed i m content) few h = omega (arith, h, hash_most content)
+
 module _ (k : Kind) (s : List ℕ) (l : Lent) (t : Table) (ok : table_ok t ≡ true) (c : Params) (named : Table) where
   shape_size_lem : (x : Shape) → length (pairs_of named) ≡ pairs_size named → ReadyShape s l t c x
       → shape_size (challenge_len c) (length l.public_key) (length l.nonce) named x ≡ length (bytes_of (shape_answer k s l t named x))
@@ -124,11 +131,17 @@ module _ {s : List ℕ} {l : Lent} {t : Table} {c : Params} {named : List ℕ} {
   short = record { named-there = h.named-there; short_shape = shape_short s l t c x h.ready_shape }
 
   module _ (ok : table_ok t ≡ true) where
-    -- its size is the length of its answer's bytes
+    -- its size is the length of its answer's bytes, which fit into every output that a call accepts
     pub size_is : (k : Kind)
         → reply_size (challenge_len c) (length l.public_key) (length l.nonce) t named x ≡ length (bytes_of (answer_of k s l t named x))
     unfolding reply_size answer_of
     size_is k = shape_size_lem k s l t ok c (records_at t named) x (sized t ok named h.named-there.each) h.ready_shape
+
+    pub size-most : reply_size (challenge_len c) (length l.public_key) (length l.nonce) t named x ≤ least_output
+    unfolding reply_size
+    size-most =
+        let few : pairs_size (records_at t named) ≤ 1376 = omega (arith, sized-most t ok named h.named-there.each, h.named-there.few) in
+        shape_most _ _ _ (records_at t named) x few short.short_shape
 
 -- ---- by a shape that is known
 
