@@ -17,7 +17,7 @@ fn obeys(table: &[u8], places: &[usize]) -> bool
 
 // The index of the table of which a stretch is the stored form, if it is one: how many records it has, and where they start. What stands past their
 // number is open.
-pub(crate) fn index_of(table: &[u8], places: &mut [usize; MAX_RECORDS]) -> Option<usize>
+pub fn index_of(table: &[u8], places: &mut [usize; MAX_RECORDS]) -> Option<usize>
     ensures { IndexIs table.now places.new result }
 {
     let mut len = 0;

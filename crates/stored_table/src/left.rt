@@ -60,7 +60,7 @@ fn is_going(table: &[u8], place: usize, mixed: &[u8], key: &[u8]) -> bool
 
 impl<'a> StoredTable<'a> {
     // The number of the first record from i on that goes; if none does, how many there are.
-    pub(crate) fn next_going(&self, i: usize, mixed: &[u8], key: &[u8]) -> usize
+    pub fn next_going(&self, i: usize, mixed: &[u8], key: &[u8]) -> usize
         requires { i ≤ length self.now }
         ensures { result ≡ i + stay_first mixed.now key.now (drop i self.now) }
     {

@@ -20,22 +20,22 @@ const KEY_SIZE: usize = 32;
 
 const COUNT_SIZE: usize = 4;
 
-pub(crate) const KEY_ID: usize = HEADER + HEADER;
+pub const KEY_ID: usize = HEADER + HEADER;
 
-pub(crate) const MIXED: usize = KEY_ID + KEY_SIZE + HEADER;
+pub const MIXED: usize = KEY_ID + KEY_SIZE + HEADER;
 
-pub(crate) const NAME: usize = MIXED + KEY_SIZE + HEADER;
+pub const NAME: usize = MIXED + KEY_SIZE + HEADER;
 
 // The name's length is the second half of its header.
 const NAME_SIZE: usize = NAME - 2;
 
 // What a record takes besides its name, and of this what its value takes.
-pub(crate) const BESIDE_NAME: usize = NAME + HEADER + COUNT_SIZE;
+pub const BESIDE_NAME: usize = NAME + HEADER + COUNT_SIZE;
 
-pub(crate) const INSIDE_BESIDE_NAME: usize = BESIDE_NAME - HEADER;
+pub const INSIDE_BESIDE_NAME: usize = BESIDE_NAME - HEADER;
 
 // How long the name of the record at a place is.
-pub(crate) fn name_len_at(table: &[u8], place: usize) -> usize
+pub fn name_len_at(table: &[u8], place: usize) -> usize
     requires { Stands table.now place }
     ensures { result ≡ name_size table.now place }
 {
@@ -44,7 +44,7 @@ pub(crate) fn name_len_at(table: &[u8], place: usize) -> usize
 
 // The KeyID of the record at a place.
 #[tactic(auto, unfolding(crate::specs::Stored::record_at))]
-pub(crate) fn key_at(table: &[u8], place: usize) -> &[u8]
+pub fn key_at(table: &[u8], place: usize) -> &[u8]
     requires { Stands table.now place }
     ensures { result.now ≡ (record_at table.now place).key_id }
 {
@@ -55,7 +55,7 @@ pub(crate) fn key_at(table: &[u8], place: usize) -> &[u8]
 
 // The mixed token of the record at a place.
 #[tactic(auto, unfolding(crate::specs::Stored::record_at))]
-pub(crate) fn mixed_at(table: &[u8], place: usize) -> &[u8]
+pub fn mixed_at(table: &[u8], place: usize) -> &[u8]
     requires { Stands table.now place }
     ensures { result.now ≡ (record_at table.now place).mixed }
 {
@@ -66,7 +66,7 @@ pub(crate) fn mixed_at(table: &[u8], place: usize) -> &[u8]
 
 // The name of the record at a place.
 #[tactic(auto, unfolding(crate::specs::Stored::record_at))]
-pub(crate) fn name_at(table: &[u8], place: usize) -> &[u8]
+pub fn name_at(table: &[u8], place: usize) -> &[u8]
     requires { Stands table.now place }
     ensures { result.now ≡ (record_at table.now place).name }
 {
@@ -76,7 +76,7 @@ pub(crate) fn name_at(table: &[u8], place: usize) -> &[u8]
 }
 
 // Where the counter of the record at a place stands.
-pub(crate) fn count_place(table: &[u8], place: usize) -> usize
+pub fn count_place(table: &[u8], place: usize) -> usize
     requires { Stands table.now place }
     ensures { result ≡ count_at table.now place }
 {
@@ -85,7 +85,7 @@ pub(crate) fn count_place(table: &[u8], place: usize) -> usize
 
 // The counter of the record at a place.
 #[tactic(auto, unfolding(crate::specs::Stored::record_at))]
-pub(crate) fn count_at(table: &[u8], place: usize) -> u32
+pub fn count_at(table: &[u8], place: usize) -> u32
     requires { Stands table.now place }
     ensures { result ≡ (record_at table.now place).count }
 {
