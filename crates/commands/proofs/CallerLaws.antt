@@ -1,7 +1,7 @@
 -- A command that does not look at its caller's records gives the same for whatever mixed token it is performed.
 -- Assumes nothing.
 use mathlib.Core.Path.{◌≡◌, refl, sym, ◌∙◌}
-use mathlib.Core.Bool.{true, false, not, ◌&&◌, and-false}
+use mathlib.Core.Bool.{Bool, true, false, not, ◌&&◌, and-false}
 use mathlib.Core.List.{List}
 use Prim.Native.Nat.{ℕ}
 use Rattle.model.specs.Tlv.{Kind, get_info, register, sign, deregister, open_settings, broken}
@@ -11,6 +11,18 @@ use Rattle.model.specs.Traces.{has_token}
 use Rattle.model.proofs.Basics.{split, clash}
 use Rattle.model.proofs.HashLaws.{performed_for}
 use Rattle.commands.specs.Callers.{looks, mixed_for}
+
+-- a command that breaks a rule does not
+pub broken_blind : (k : Kind) (verdict : ℕ) → looks k true verdict ≡ false
+broken_blind get_info v = refl
+broken_blind register v = refl
+broken_blind sign v = refl
+broken_blind deregister v = refl
+broken_blind open_settings v = refl
+
+pub looks_unbroken : (k : Kind) (breaks : Bool) (verdict : ℕ) → looks k breaks verdict ≡ true → breaks ≡ false
+looks_unbroken k false v e = refl
+looks_unbroken k true v e = clash e (broken_blind k v)
 
 -- a user who is not verified, where that is asked, of a command that breaks no rule
 unverified : (m : List ℕ) (k : Kind) (c : Call) (t : Table) → broken k c.command ≡ false → (has_token k && true) ≡ true

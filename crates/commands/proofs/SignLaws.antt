@@ -1,9 +1,9 @@
 -- What Sign decides: on one chosen record, and by how many are chosen.
 -- Assumes nothing.
 use mathlib.Core.Path.{◌≡◌, refl, sym, ap, ◌∙◌}
-use mathlib.Core.Bool.{Bool, false}
+use mathlib.Core.Bool.{Bool, true, false}
 use mathlib.Core.List.{List, [], ◌∷◌}
-use Prim.Native.Nat.{ℕ, ◌+◌, ◌≤◌}
+use Prim.Native.Nat.{ℕ, ◌+◌, ◌≤◌, ◌<◌}
 use native.Mathlib.Nat.{pos_of_ne-zero}
 use native.Mathlib.Numerals.{add-one}
 use native.Mathlib.Omega.{arith}
@@ -21,11 +21,12 @@ use Rattle.params.specs.Lent.{lent_of}
 use Rattle.params.specs.Parse.{HandlesPlaced, ParamsPlaced, ParamsRead, HandlesRead}
 use Rattle.params.specs.declared.lent.Numbers.{Numbers}
 use Rattle.params.specs.declared.parse.Params.{Params}
-use Rattle.stored_table.specs.Stored.{no_record}
+use Rattle.stored_table.specs.Stored.{Indexed, no_record, table_in}
 use Rattle.stored_table.specs.Changes.{CanCount}
 use Rattle.stored_table.specs.Chosen.{is_chosen, positions, ChosenAre, ChosenOf, records_at}
 use Rattle.stored_table.specs.declared.left.Change.TheVariants.{Keep, SetCount}
-use Rattle.stored_table.proofs.LookupLaws.{chosen_is, chosen-records, chosen_of}
+use Rattle.stored_table.proofs.IndexLaws.{length-places}
+use Rattle.stored_table.proofs.LookupLaws.{chosen_is, chosen-records, chosen_of, chosen_ok}
 use Rattle.replies.specs.Replies.{answer_of, Quoted}
 use Rattle.replies.specs.declared.reply.Shape.TheVariants.{Status, Names, Signed}
 use Rattle.replies.proofs.ReplyLaws.{sign-draft}
@@ -106,14 +107,13 @@ module _ {s : List ℕ} {p : Params} (n : Numbers) (q : ParamsRead sign s p) whe
     pub handles_placed : {places : List ℕ} → HandlesRead sign s places p.handle_count → HandlesPlaced s places p.handle_count
     handles_placed u = u.unless_broken sign-unbroken
 
-    pub chose : {m places : List ℕ} {t : records.Table} {cs : List ℕ} {k : ℕ} → HandlesRead sign s places p.handle_count → length cs ≡ 8
+    chose_there : {m places : List ℕ} {t : records.Table} {cs : List ℕ} {k : ℕ} → HandlesRead sign s places p.handle_count → ChosenOf t (take k cs)
         → ChosenAre (positions (is_chosen m (rows 0 (take p.handle_count places) s)) 0 t) cs k → Chose s n m t p cs k
     unfolding decide
-    chose {m} {places} {t} {cs} {k} u size h =
+    chose_there {m} {places} {t} {cs} {k} u of h =
         let hs : List (List ℕ) = rows 0 (take p.handle_count places) s in
         let r : records.Record = get_or t (get_or cs 0 0) no_record in
         let are : records_at t (take k cs) ≡ chosen hs (own m t) = chosen-records m hs t h.are in
-        let of : ChosenOf t (take k cs) = chosen_of m hs t h.are (omega (arith, length-take-le k cs h.within, h.within)) in
         let first-is : k ≡ 1 → take k cs ≡ get_or cs 0 0 ∷ [] = λ e. first_of k cs e h.within in
         let one : k ≡ 1 → records_at t (take k cs) ≡ r ∷ [] = λ e. ap (records_at t) (first-is e) in
         record {
@@ -131,6 +131,16 @@ module _ {s : List ℕ} {p : Params} (n : Numbers) (q : ParamsRead sign s p) whe
               };
         }
 
+    -- there are at most eight, by what is lent for them, or by the table's rules
+    pub chose : {m places : List ℕ} {t : records.Table} {cs : List ℕ} {k : ℕ} → HandlesRead sign s places p.handle_count → length cs ≡ 8
+        → ChosenAre (positions (is_chosen m (rows 0 (take p.handle_count places) s)) 0 t) cs k → Chose s n m t p cs k
+    chose {m} {t = t} {cs} {k} u size h =
+        chose_there u (chosen_of m _ t h.are (omega (arith, length-take-le k cs h.within, h.within))) h
+
+    pub chose_ok : {m places : List ℕ} {t : records.Table} {cs : List ℕ} {k : ℕ} → HandlesRead sign s places p.handle_count → records.table_ok t ≡ true
+        → ChosenAre (positions (is_chosen m (rows 0 (take p.handle_count places) s)) 0 t) cs k → Chose s n m t p cs k
+    chose_ok {m} {t = t} u ok h = chose_there u (chosen_ok m _ t h.are ok) h
+
 -- ---- by how many are chosen
 
 -- none
@@ -138,6 +148,11 @@ chosen_none : (s : List ℕ) (l : Lent) (rs : records.Table) → length rs ≡ 0
 unfolding sign_chosen
 chosen_none s l [] h = refl
 chosen_none s l (r ∷ rs) h = absurd (omega arith)
+
+-- the only one has a place
+pub one_placed : {s : List ℕ} {n : Numbers} {m table places : List ℕ} {p : Params} {cs : List ℕ} {k : ℕ}
+    → Chose s n m (table_in table) p cs k → k ≡ 1 → Indexed table places → get_or cs 0 0 < length places
+one_placed w e x = omega (arith, (w.mine e).there, length-places x)
 
 module _ {s : List ℕ} {n : Numbers} {m key : List ℕ} {t : records.Table} {p : Params} {cs : List ℕ} {k : ℕ} (w : Chose s n m t p cs k) where
   pub none_chosen : k ≡ 0 → Decides sign s n m key t p cs (decision (Status 0x02) 0 Keep)

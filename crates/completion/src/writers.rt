@@ -67,9 +67,9 @@ pub fn put_registration(
     );
     let a2 = put_bytes(out, a1, draft);
     let a3 = put_header(out, a2, attestation, n);
-    let a4 = put_tlv(out, a3, tags::SIGNATURE, signature);
     if attestation != tags::BASIC_FULL {
-        return a4;
+        return put_tlv(out, a3, tags::SIGNATURE, signature);
     }
+    let a4 = put_tlv(out, a3, tags::SIGNATURE, signature);
     put_tlv(out, a4, tags::CERT, certificate)
 }

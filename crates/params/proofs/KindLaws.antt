@@ -7,6 +7,7 @@ use mathlib.Core.List.{List, [], ◌∷◌, ◌++◌, map}
 use mathlib.Core.Option
 use mathlib.Core.Option.{Option, none, some}
 use Prim.Native.Nat.{ℕ, zero, suc, ◌≤◌, ◌<◌}
+use native.Mathlib.Numerals.{lt_of_le_of_ne}
 use native.Mathlib.Omega.{arith}
 use lib.ListN.{length, take, get_or}
 use lib.Dec.{leb, ltb, eqb}
@@ -41,10 +42,22 @@ select_none tag (k ∷ ks) h =
     let rest = select_none tag ks h in
     (rest.0.0, rw (ne_eqb tag (command_tag k) rest.0.1) rest.1)
 
+pub names_none : (tag : ℕ) → NoneOf command_tag (Unit {0}) tag kinds → kind_with tag ≡ none
+names_none tag k = ap first (select_none tag kinds k).1
+
 pub kind_none : (s : List ℕ) {tag : ℕ} → 4 ≤ length s → tag ≡ num_at 2 s 0 → NoneOf command_tag (Unit {0}) tag kinds → none ≡ kind_of s
-kind_none s {tag} h e k = sym (ap first (select_none tag kinds k).1) ∙ kind-named s h e refl
+kind_none s {tag} h e k = sym (names_none tag k) ∙ kind-named s h e refl
 
 -- ---- slots and tags
+
+-- a number is none of those below another
+abbrev pub NotBelow : ℕ → ℕ → Type 0
+NotBelow x zero = Unit {0}
+NotBelow x (suc n) = NotBelow x n × (x ≡ n → ⊥)
+
+not-below : (x n : ℕ) → NotBelow x n → n ≤ x
+not-below x zero h = omega arith
+not-below x (suc n) h = lt_of_le_of_ne (not-below x n h.0) (λ e. h.1 (sym e))
 
 -- the last of a list is what remains
 get_d_last : {A : Type 0} (xs : List A) (x : A) (i : ℕ) → length xs ≤ i → get_or (xs ++ (x ∷ [])) i x ≡ x
@@ -55,6 +68,9 @@ get_d_last (y ∷ xs) x (suc i) h = get_d_last xs x i (omega arith)
 
 slot_from : (slot : ℕ) → 9 ≤ slot → slot_field slot ≡ key_handle
 slot_from slot h = get_d_last (take 9 command_fields) key_handle slot h
+
+pub slot_last : (slot : ℕ) → NotBelow slot 9 → slot_field slot ≡ key_handle
+slot_last slot k = slot_from slot (not-below slot 9 k)
 
 -- a tag that is none of the fields'
 place_none : {K : Type 0} (tag : ℕ) (fs : List Field) → NoneOf tag_of K tag fs → K × (place_of tag fs ≡ length fs)

@@ -10,6 +10,8 @@ use tlv::heads::part_of;
 pub fn signed_part(s: &[u8]) -> Result<&[u8], Refusal>
     ensures { lent result ≡ signed_bytes (read_response s.now) s.now }
 {
-    let p = shape_of(s).ok_or(Refusal::NotWritten)?;
+    let Some(p) = shape_of(s) else {
+        return Err(Refusal::NotWritten);
+    };
     Ok(part_of(s, p))
 }

@@ -1,4 +1,5 @@
 // The arguments of the calls, and what their outputs hold before a call.
+ghost use Rattle.std.specs.Prelude.{◌<◌};
 
 // An argument that a script sets.
 #[derive(Clone, Copy)]
@@ -131,7 +132,9 @@ impl Slots {
     }
 
     // The number in a slot as a length.
-    pub fn length(&self, slot: Slot) -> usize {
+    pub fn length(&self, slot: Slot) -> usize
+        ensures { result < 4294967296 }
+    {
         self.number(slot) as usize
     }
 

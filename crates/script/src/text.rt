@@ -1,5 +1,5 @@
 // Text: bytes in hexadecimal, what the calls with one output gave, and a sum that tells stretches apart.
-ghost use Rattle.std.specs.Prelude.{◌≡◌, ◌<◌};
+ghost use Rattle.std.specs.Prelude.{◌≡◌, ◌<◌, length, take, MatchOption};
 ghost use Rattle.script.specs.Adler.{adler_from};
 
 use std::{fmt, io};
@@ -77,7 +77,10 @@ impl Given {
     }
 
     // What was written from the front of the output, unless the call was refused.
-    pub fn written(self, output: &[u8]) -> Option<&[u8]> {
+    pub fn written(self, output: &[u8]) -> Option<&[u8]>
+        ensures { MatchOption result (self.code ≡ 0 → length output.now < self.len)
+            (λ s. (self.code ≡ 0) × (s.now ≡ take self.len output.now)) }
+    {
         if self.code != 0 {
             return None;
         }

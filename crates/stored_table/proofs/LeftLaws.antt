@@ -175,6 +175,16 @@ module _ (m key : List ℕ) where
       let ih = staying_most t in
       split (goes m key r) (λ e. rw e (simp length-append (omega (arith, ih)))) (λ e. rw e (simp length-append (omega (arith, ih))))
 
+  stay_most : (t : model.Table) → stay_first m key t ≤ length t
+  unfolding stay_first
+  stay_most [] = omega arith
+  stay_most (r ∷ rs) = split (goes m key r) (λ e. rw e (omega arith)) (λ e. rw e (omega (arith, stay_most rs)))
+
+  -- the next that goes is one of them, or none
+  pub next-within : {table places : List ℕ} → Indexed table places → (i : ℕ) → i ≤ length places
+      → i + stay_first m key (drop i (table_in table)) ≤ length places
+  next-within {table} x i h = omega (arith, stay_most (drop i (table_in table)), length-drop i (table_in table), length-places x)
+
   -- of the records from j on the first goes, or stays
   module _ {table places : List ℕ} (x : Indexed table places) {t : model.Table} (v : table_in table ≡ t) (j : ℕ) (h : j < length t) {g : Bool}
       (e : g ≡ goes m key (record_at table (get_or places j 0))) where

@@ -95,6 +95,10 @@ module _ (m : List ℕ) (hs : List (List ℕ)) (t : model.Table) where
     pub chosen_of : length is ≤ 8 → ChosenOf t is
     chosen_of few = record { few = few; each = rw e (λ i l. omega (arith, positions_below (is_chosen m hs) 0 t i l)) }
 
+    -- of a table that obeys the rules there are no more
+    pub chosen_ok : table_ok t ≡ true → ChosenOf t is
+    chosen_ok ok = chosen_of (rw e (chosen-few ok))
+
 -- ---- a walk over the records of a stored table
 
 -- the numbers from i on

@@ -4,7 +4,7 @@ ghost use Rattle.std.specs.Prelude.{◌≡◌, ◌≤◌, ◌<◌, length, get_o
 ghost use Rattle.std.proofs.Math.Option.{none, some};
 ghost use Rattle.model.specs.Records.{decode};
 ghost use Rattle.std.specs.List.{sum_by};
-ghost use Rattle.stored_table.specs.Stored.{no_record};
+ghost use Rattle.stored_table.specs.Stored.{no_record, table_in, Indexed};
 ghost use Rattle.stored_table.specs.Chosen.{ChosenOf};
 
 use crate::index::index_of;
@@ -40,6 +40,14 @@ impl<'a> StoredTable<'a> {
             bytes,
             places: &places[..len],
         })
+    }
+
+    // A table whose bytes and places are at hand: the bytes are its stored form, and each of its records starts at its place.
+    pub fn of(bytes: &'a [u8], places: &'a [usize]) -> StoredTable<'a>
+        requires { Indexed bytes.now places.now }
+        ensures { result ≡ table_in bytes.now }
+    {
+        StoredTable { bytes, places }
     }
 
     // How many records it has.

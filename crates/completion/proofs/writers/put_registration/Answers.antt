@@ -12,7 +12,7 @@ returns-then-attestation-ne-BASIC_FULL c =
     let x = completion 0 a.draft.now a.attestation a.signature.now a.certificate.now 0 in
     opened _ _ c.put_opening-a1.ensures
     (then c.put_bytes-a2.ensures
-    (then_value _ c.put_header-a3.ensures (without_certificate x c.if-attestation-ne-BASIC_FULL.true c.certificate_len.ensures c.put_tlv-a4.ensures)))
+    (then_value _ c.put_header-a3.ensures (without_certificate x c.if-attestation-ne-BASIC_FULL.true c.certificate_len.ensures c.put_tlv.ensures)))
 
 pub returns : goal.returns
 unfolding completed
@@ -22,4 +22,4 @@ returns c =
     opened _ _ c.put_opening-a1.ensures
     (then c.put_bytes-a2.ensures
     (then_value _ c.put_header-a3.ensures
-    (with_certificate x c.if-attestation-ne-BASIC_FULL.false c.certificate_len.ensures c.put_tlv-a4.ensures c.put_tlv.ensures)))
+    (with_certificate x c.if-attestation-ne-BASIC_FULL.false c.certificate_len.ensures c.put_tlv-a4.ensures c.put_tlv-2.ensures)))
