@@ -31,7 +31,9 @@ impl<'a> Model for StoredTable<'a> {
 }
 
 impl<'a> StoredTable<'a> {
-    // The table of which a stretch is the stored form, if it is one. It keeps the places of its records in what is lent for them.
+    // The table of which a stretch is the stored form, if it is one. It keeps the places of its records in what is lent for them. Made part of its
+    // callers: else the Option goes through memory, and a call refused with 3 on an empty table takes a third more time.
+    #[inline(always)]
     pub fn read(bytes: &'a [u8], places: &'a mut [usize; MAX_RECORDS]) -> Option<StoredTable<'a>>
         ensures { MatchOption result (decode bytes.now ≡ none) (λ t. decode bytes.now ≡ some t) }
     {
