@@ -78,7 +78,7 @@ impl<'a> StoredTable<'a> {
     }
 
     // The name of a record.
-    pub fn name_of(&self, i: usize) -> &[u8]
+    pub fn name_of(&self, i: usize) -> &'a [u8]
         requires { i < length self.now }
         ensures { (result.now ≡ (get_or self.now i no_record).name) × (length result.now ≤ 128) }
     {
@@ -86,7 +86,7 @@ impl<'a> StoredTable<'a> {
     }
 
     // The KeyID of a record.
-    pub fn key_of(&self, i: usize) -> &[u8]
+    pub fn key_of(&self, i: usize) -> &'a [u8]
         requires { i < length self.now }
         ensures { (result.now ≡ (get_or self.now i no_record).key_id) × (length result.now ≡ 32) }
     {
@@ -94,7 +94,7 @@ impl<'a> StoredTable<'a> {
     }
 
     // The mixed token of a record.
-    pub fn mixed_of(&self, i: usize) -> &[u8]
+    pub fn mixed_of(&self, i: usize) -> &'a [u8]
         requires { i < length self.now }
         ensures { (result.now ≡ (get_or self.now i no_record).mixed) × (length result.now ≡ 32) }
     {
